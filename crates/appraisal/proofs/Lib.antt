@@ -1,0 +1,4 @@
+pub mod Writing
+pub mod Quotient
+pub mod Entering
+pub mod Feeds

@@ -1,0 +1,4 @@
+pub mod Readings
+pub mod Answers
+pub mod Judging
+pub mod Text

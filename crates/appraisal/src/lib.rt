@@ -1,0 +1,24 @@
+//! What a card costs over test shots: the text lines of the program `appraise`, read, judged and
+//! answered. The program only carries bytes in and answers out.
+mod answer;
+mod judging;
+mod reading;
+mod text;
+
+pub use answer::Answer;
+pub use answer::AnswerDebug;
+pub use answer::AnswerDisplay;
+pub use answer::AnswerEq;
+pub use answer::AnswerPartialEq;
+pub use judging::close;
+pub use judging::judge;
+pub use reading::Entry;
+pub use reading::EntryDebug;
+pub use reading::EntryEq;
+pub use reading::EntryPartialEq;
+pub use reading::read_card;
+pub use reading::read_entry;
+pub use text::text_line;
+
+#[cfg(test)]
+mod tests;
