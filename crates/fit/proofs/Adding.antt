@@ -5,7 +5,7 @@ use mathlib.Core.Logic.{inl, inr}
 use Prim.Native.Nat.{ℕ, zero, suc, _+_, _*_, _≤_, _<_}
 use native.Mathlib.Nat.{mul-le-mul, mul-one}
 use native.Mathlib.Omega.{arith}
-use lib.IntN.{ℤ, pos, negsuc, natAbs, negℤ, _-ℤ_, _*ℤ_}
+use lib.IntN.{ℤ, pos, negsuc, natAbs, negℤ, _+ℤ_, _-ℤ_, _*ℤ_}
 use lib.ListN.{length}
 use lib.Signed.{_≤ℤ_}
 use borrow.Author.Differences.{ints}
@@ -15,14 +15,16 @@ use Rattle.shots.specs.declared.shot.Shot.{Shot}
 use mir.Syntax.{w32}
 use mir.Val.{toZ, ofZ}
 use Rattle.lines.specs.Costs.{cost, shareOf}
-use Rattle.lines.specs.Lines.{miss, missOf, On}
+use Rattle.lines.specs.Lines.{any, miss, missOf, On}
 use Rattle.lines.specs.Sums.{sumZ}
 use Rattle.lines.specs.declared.line.Line.{Line}
 use Rattle.lines.proofs.Cost.{cost-up, cost-down, cost-nn}
 use Rattle.lines.proofs.Order.{prod, weaken}
 use Rattle.lines.proofs.Ring.{lin, ring, flat, from, _&_, mul-neg}
 use Rattle.lines.proofs.Sizes.{Sized, sized-mul}
-use Rattle.fit.specs.Totals.{paid, totalOf, In, Bounded, Even}
+use Rattle.theory.specs.Points.{total, paid as paid-at}
+use Rattle.fit.specs.Points.{point, points}
+use Rattle.fit.specs.Totals.{paid, totalOf, Bounded, Even}
 
 -- ---- one shot
 pub paid-nn : (tariff : ℤ → ℕ × ℕ) (l : Line) (z : Shot) → pos 0 ≤ℤ paid tariff l z
@@ -99,3 +101,12 @@ shared tariff l z m p r fair em ep er low high =
     let late : p .0 ≤ 20 = subst (λ x. x .0 ≤ 20) (sym q) (fair .late (pos (z .stuff)) .1) in
     let early : p .1 ≤ 20 = subst (λ x. x .1 ≤ 20) (sym q) (fair .early (pos (z .stuff)) .1) in
     record { is = er ∙ ap (λ x. shareOf l z (x .0) (x .1)) q; size = record { low = omega (arith, ints); high = high late early } }
+
+-- T of shots is the total of their points
+paid-point : (tariff : ℤ → ℕ × ℕ) (l : Line) (z : Shot) → paid tariff l z ≡ paid-at (any l) (point tariff z)
+unfolding paid paid-at
+paid-point tariff l z = refl
+
+pub total-points : (tariff : ℤ → ℕ × ℕ) (l : Line) (xs : List Shot) → totalOf tariff l xs ≡ total (any l) (points tariff xs)
+total-points tariff l [] = refl
+total-points tariff l (z ∷ xs) = λ i. paid-point tariff l z i +ℤ total-points tariff l xs i

@@ -1,2 +1,7 @@
 pub mod Running
 pub mod Adding
+pub mod Ways
+pub mod Told
+pub mod Held
+pub mod Tests
+pub mod Speeds

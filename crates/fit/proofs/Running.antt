@@ -1,6 +1,6 @@
 -- A loop that adds up one number for each shot of a rack: what its sum is after so many turns, and that it never wraps.
 use mathlib.Core.Path.{_≡_, refl, sym, ap, _∙_}
-use mathlib.Core.List.{List, [], _∷_, _++_}
+use mathlib.Core.List.{List, [], _∷_, _++_, map}
 use Prim.Native.Nat.{ℕ, _+_, _*_, _≤_, _<_}
 use native.Mathlib.Nat.{mul-le-mul, mul-add, mul-one}
 use native.Mathlib.Omega.{arith}
@@ -52,3 +52,8 @@ module _ {T : Type 0} (f : T → ℤ) where
   -- all turns
   pub run-all : (xs : List T) (m i : ℕ) (s : ℤ) → length xs ≤ i → Running f xs m i s → s ≡ sumZ f xs
   run-all xs m i s h t = t .is ∙ ap (sumZ f) (take-all i xs h)
+
+-- a sum over a list of images
+pub sum-map : {S T : Type 0} (f : T → ℤ) (h : S → T) (xs : List S) → sumZ (λ x. f (h x)) xs ≡ sumZ f (map h xs)
+sum-map f h [] = refl
+sum-map f h (x ∷ xs) = ap (λ n. f (h x) +ℤ n) (sum-map f h xs)

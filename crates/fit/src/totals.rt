@@ -2,6 +2,9 @@
 ghost use mathlib.Core.Path.{_≡_};
 ghost use lib.IntN.{pos};
 ghost use lib.Signed.{_≤ℤ_};
+ghost use Rattle.lines.specs.Lines.{any};
+ghost use Rattle.theory.specs.Points.{total as totalAt};
+ghost use Rattle.fit.specs.Points.{points};
 ghost use Rattle.fit.specs.Totals.{totalOf, Bounded, Even};
 use crate::place::shot_at;
 use lines::Line;
@@ -13,6 +16,7 @@ use shots::PriceRule;
 /// held shot on it. With even prices, the sum of the weighted misses without their sign.
 pub fn total<R: Rack, P: PriceRule>(rack: &R, rule: &P, line: Line) -> i64
     ensures value { λ r. ⌜ r ≡ totalOf (P·PriceRule .tariff (now (rule .entry))) line (R·Rack .held (now (rack .entry))) ⌝ }
+    ensures points { λ r. ⌜ r ≡ totalAt (any line) (points (P·PriceRule .tariff (now (rule .entry))) (R·Rack .held (now (rack .entry)))) ⌝ }
     ensures least { λ r. ⌜ pos 0 ≤ℤ r ⌝ }
     ensures size { λ r. ⌜ r ≤ℤ pos 196599808000000 ⌝ }
     ensures most { λ r. ⌜ Bounded line (R·Rack .held (now (rack .entry))) r ⌝ }

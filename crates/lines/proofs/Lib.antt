@@ -10,3 +10,4 @@ pub mod Quotients
 pub mod Laying
 pub mod Sides
 pub mod Shares
+pub mod Abouts

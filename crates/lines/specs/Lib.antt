@@ -7,3 +7,4 @@ pub mod Sides
 pub mod Costs
 pub mod Priced
 pub mod Sums
+pub mod About

@@ -1,5 +1,6 @@
 //! Lines through shots: which three numbers make one, how far a shot lies off it, what that costs,
 //! and which of two priced lines is cheaper.
+mod about;
 mod euclid;
 mod intercept;
 mod line;
@@ -27,6 +28,7 @@ pub use priced::PricedLineDebug;
 pub use priced::PricedLineEq;
 pub use priced::PricedLinePartialEq;
 pub use reduce::reduced;
+pub use share::charge;
 pub use slope::Slope;
 pub use slope::SlopeDebug;
 pub use slope::SlopeEq;

@@ -27,7 +27,7 @@ impl Line {
 }
 
 /// Weight times price times miss.
-fn charge(weight: u8, price: u8, miss: i32) -> i64
+pub fn charge(weight: u8, price: u8, miss: i32) -> i64
     ensures { λ r. ⌜ r ≡ pos (weight * price) *ℤ miss ⌝ }
 {
     i64::from(weight) * i64::from(price) * i64::from(miss)

@@ -1,17 +1,16 @@
 -- What a rack answers, seen in the mirror: flipping is its own inverse, and the answers to read, add
 -- and strike flip along with the shots.
 use mathlib.Core.Path.{_≡_, refl, sym, ap, _∙_}
-use mathlib.Core.Bool.{Bool, true, cond}
-use mathlib.Core.List.{List, [], _∷_, _++_, map}
+use mathlib.Core.Bool.{true, cond}
+use mathlib.Core.List.{List, [], _∷_, map}
 use Prim.Native.Nat.{ℕ, _<_}
 use native.Mathlib.Omega.{arith}
 use lib.Dec.{ltb}
-use lib.IntN.{ℤ, pos, natAbs, negℤ, negℤ-negℤ}
-use lib.ListN.{length, getD, take, drop}
+use lib.IntN.{ℤ, natAbs, negℤ, negℤ-negℤ}
+use lib.ListN.{length}
 use Rattle.std.proofs.shelf.Lists.{length-map, getD-map, map-append, map-push, take-map, drop-map}
 use Rattle.std.proofs.shelf.Signed.{ints}
 use Rattle.std.specs.Options.{orOther}
-use Rattle.std.specs.declared.option.Option.{Option}
 use Rattle.std.specs.declared.option.Option.the-variants.{Some, None}
 use Rattle.std.specs.declared.result.Result.{Result}
 use Rattle.std.specs.declared.result.Result.the-variants.{Ok, Err}
@@ -21,7 +20,7 @@ use Rattle.shots.specs.declared.shot.Shot.{Shot}
 use Rattle.shots.specs.declared.refusal.Refusal.{Refusal}
 use Rattle.shots.specs.declared.refusal.Refusal.the-variants.{Speed, Lead, Weight, Stuff, Full}
 use Rattle.shots.proofs.Same.{same-numbers}
-use Rattle.racks.specs.Racks.{Holds, Read, addFault, Added, Struck}
+use Rattle.racks.specs.Racks.{Read, addFault, Added, Struck}
 use Rattle.racks.specs.Flips.{flipped}
 
 twice : (z : Shot) → flipped (flipped z) ≡ z

@@ -8,7 +8,7 @@ use Rattle.std.proofs.shelf.Signed.{ints}
 use Rattle.lines.proofs.Sums.{sum-nn}
 use Rattle.fit.specs.Totals.{paid, Bounded, Even}
 use Rattle.fit.proofs.Running.{run-more, run-all}
-use Rattle.fit.proofs.Adding.{shared, paid-nn, total-bounded, total-even}
+use Rattle.fit.proofs.Adding.{shared, paid-nn, total-bounded, total-even, total-points}
 use Rattle.fit.proofs.totals.total.Needs as need
 
 pub add-sum : need.add-sum
@@ -41,6 +41,7 @@ returns g c =
     let stop : c .loop-place .place ≤ 512 = omega arith in
     record {
       value = e;
+      points = e ∙ total-points tariff line held;
       size = omega (arith, ints);
       least = subst (λ s. pos 0 ≤ℤ s) (sym e) (sum-nn (paid tariff line) held (paid-nn tariff line));
       most = subst (Bounded line held) (sym e) (total-bounded tariff line held (g .P·PriceRule .fair (c .args .rule .now)) (omega arith));
