@@ -5,3 +5,9 @@ pub mod Told
 pub mod Held
 pub mod Tests
 pub mod Speeds
+pub mod Mounted
+pub mod Crossing
+pub mod Filled
+pub mod Pulling
+pub mod Swings
+pub mod Weighing
