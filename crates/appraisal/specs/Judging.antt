@@ -25,13 +25,16 @@ use Rattle.racks.specs.Racks.{addFault}
 use Rattle.fit.specs.Totals.{totalOf}
 use Rattle.appraisal.specs.Readings.{ShotText}
 use Rattle.appraisal.specs.declared.answer.Answer.{Answer}
-use Rattle.appraisal.specs.declared.answer.Answer.the-variants.{Refused, Judged, Total}
+use Rattle.appraisal.specs.declared.answer.Answer.the-variants.{Refused, Judged, Total, Cheapest, NotCheapest, Untested}
 
 abbrev pub Stands : List Shot → Line → ℕ → Answer → Type 0
 Stands xs l k (Refused e n) = ⊥
 Stands xs l k (Judged place side miss) =
     (z : Shot) × (z ≡ getD xs k z) × (place ≡ k) × (side ≡ sideOf (missOf l z)) × (miss ≡ missOf l z)
 Stands xs l k (Total t a q) = ⊥
+Stands xs l k Cheapest = ⊥
+Stands xs l k (NotCheapest at by) = ⊥
+Stands xs l k Untested = ⊥
 
 pub record Entered (cap : ℕ) (xs : List Shot) (text : List ℕ) (ys : List Shot) : Type 0 where
   pub s : ℤ
@@ -59,9 +62,15 @@ abbrev pub Judges : ℕ → List Shot → Line → List ℕ → ℕ → Answer �
 Judges cap xs l text number (Refused e n) ys = (n ≡ number) × (ys ≡ xs) × Declined cap xs text e
 Judges cap xs l text number (Judged place side miss) ys = Entered cap xs text ys × Stands ys l (length xs) (Judged place side miss)
 Judges cap xs l text number (Total t a q) ys = ⊥
+Judges cap xs l text number Cheapest ys = ⊥
+Judges cap xs l text number (NotCheapest at by) ys = ⊥
+Judges cap xs l text number Untested ys = ⊥
 
 abbrev pub Closes : List Shot → Line → Answer → Type 0
 Closes xs l (Refused e n) = ⊥
 Closes xs l (Judged place side miss) = ⊥
 Closes xs l (Total t a q) =
     (t ≡ totalOf even l xs) × (a ≡ l .a) × ((pos q *ℤ l .a) ≤ℤ (pos 1000 *ℤ t)) × ((pos 1000 *ℤ t) <ℤ (pos (q + 1) *ℤ l .a))
+Closes xs l Cheapest = ⊥
+Closes xs l (NotCheapest at by) = ⊥
+Closes xs l Untested = ⊥

@@ -2,3 +2,4 @@ pub mod Readings
 pub mod Answers
 pub mod Judging
 pub mod Text
+pub mod Deciding

@@ -1,6 +1,6 @@
 //! What the program answers, and how it is written.
 ghost use Rattle.std.specs.declared.option.Option.the-variants.{Some};
-ghost use Rattle.appraisal.specs.Answers.{textOf, sideText};
+ghost use Rattle.appraisal.specs.Answers.{textOf, sideText, failingText, cheaperText};
 use lines::Side;
 use lines::SideDebug;
 use lines::SideEq;
@@ -31,6 +31,16 @@ pub enum Answer {
         a: i32,
         thousandths: u64,
     },
+    /// No line is cheaper, of all lines there are.
+    Cheapest,
+    /// A line is cheaper: the first place that shows it, its two rates, and the line turned about it
+    /// with its total.
+    NotCheapest {
+        at: FailingPlace,
+        by: CheaperLine,
+    },
+    /// Fewer than two shots of different speeds are on the line, so the test does not apply.
+    Untested,
 }
 
 // A side, as it is written in an answer.
@@ -48,6 +58,41 @@ impl fmt::Display for SideWord as SideWordDisplay {
                 Side::On => "on",
             },
         )
+    }
+}
+
+/// The first place that shows that a line is cheaper, and its two rates.
+#[derive(Clone, Copy, PartialEq, Eq, Debug)]
+pub struct FailingPlace {
+    pub place: usize,
+    pub rise: i64,
+    pub fall: i64,
+}
+
+impl fmt::Display for FailingPlace as FailingPlaceDisplay {
+    ghost shown = { λ s. Some (failingText s) };
+
+    fn fmt<W: fmt::Write>(&self, f: &mut fmt::Formatter<W>) -> fmt::Result {
+        let FailingPlace { place, rise, fall } = *self;
+        write!(f, "{place}\t{rise}\t{fall}")
+    }
+}
+
+/// A cheaper line and its total.
+#[derive(Clone, Copy, PartialEq, Eq, Debug)]
+pub struct CheaperLine {
+    pub a: i32,
+    pub b: i32,
+    pub c: i32,
+    pub total: i64,
+}
+
+impl fmt::Display for CheaperLine as CheaperLineDisplay {
+    ghost shown = { λ s. Some (cheaperText s) };
+
+    fn fmt<W: fmt::Write>(&self, f: &mut fmt::Formatter<W>) -> fmt::Result {
+        let CheaperLine { a, b, c, total } = *self;
+        write!(f, "{a}\t{b}\t{c}\t{total}")
     }
 }
 
@@ -78,6 +123,9 @@ pub impl fmt::Display for Answer as AnswerDisplay {
                     "total\t{total}\t{a}\t{whole}.{tenth}{hundredth}{thousandth}"
                 )
             }
+            Answer::Cheapest => f.write_str("cheapest"),
+            Answer::NotCheapest { at, by } => write!(f, "not cheapest\t{at}\t{by}"),
+            Answer::Untested => f.write_str("untested\tfewer than two speeds on the line"),
         }
     }
 }

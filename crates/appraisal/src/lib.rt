@@ -1,6 +1,7 @@
 //! What a card costs over test shots: the text lines of the program `appraise`, read, judged and
 //! answered. The program only carries bytes in and answers out.
 mod answer;
+mod deciding;
 mod judging;
 mod reading;
 mod text;
@@ -10,6 +11,9 @@ pub use answer::AnswerDebug;
 pub use answer::AnswerDisplay;
 pub use answer::AnswerEq;
 pub use answer::AnswerPartialEq;
+pub use answer::CheaperLine;
+pub use answer::FailingPlace;
+pub use deciding::verdict;
 pub use judging::close;
 pub use judging::judge;
 pub use reading::Entry;

@@ -4,6 +4,7 @@ use lines::Line;
 use lines::LineDebug;
 use lines::LinePartialEq;
 use lines::Side;
+use racks::Rack;
 use racks::RecordRack;
 use racks::RecordRackRack;
 use shots::Refusal;
@@ -21,6 +22,41 @@ fn cards_are_lines() -> Result<(), Fail> {
     check(read_card(b"1\t0").is_none())?;
     check(read_card(b"1\t0\t0\t0").is_none())?;
     check(read_card(b"").is_none())
+}
+
+#[test]
+fn verdicts_name_a_cheaper_line() -> Result<(), Fail> {
+    let Some(level) = Line::new(1, 0, 0) else {
+        return Err(Fail::new("1 0 0 is a line"));
+    };
+    let Some(best) = Line::new(75, -1, 2000) else {
+        return Err(Fail::new("75 -1 2000 is a line"));
+    };
+    let mut records = [Shot::new(1, 0, 1, 0)?; 5];
+    let mut rack = RecordRack::open(&mut records);
+    rack.add(500, 20, 1, 0)?;
+    rack.add(1000, 0, 1, 0)?;
+    check_eq(verdict(&rack, level), Answer::Untested)?;
+    rack.add(2000, 0, 1, 0)?;
+    rack.add(3000, 0, 1, 0)?;
+    rack.add(3500, -20, 1, 0)?;
+    check_eq(
+        verdict(&rack, level),
+        Answer::NotCheapest {
+            at: FailingPlace {
+                place: 2,
+                rise: 5000,
+                fall: -1000,
+            },
+            by: CheaperLine {
+                a: 75,
+                b: -1,
+                c: 2000,
+                total: 2000,
+            },
+        },
+    )?;
+    check_eq(verdict(&rack, best), Answer::Cheapest)
 }
 
 #[test]

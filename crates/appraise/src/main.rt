@@ -1,11 +1,12 @@
 //! What does the card that is in the valve now cost over these test shots? The card and the shots
-//! come as text lines on standard input; each gets one answer, and the total comes last.
+//! come as text lines on standard input; each gets one answer, and the total and the verdict come last.
 use appraisal::Answer;
 use appraisal::AnswerDisplay;
 use appraisal::close;
 use appraisal::judge;
 use appraisal::read_card;
 use appraisal::text_line;
+use appraisal::verdict;
 use racks::RecordRack;
 use racks::RecordRackRack;
 use shots::Refusal;
@@ -47,5 +48,7 @@ fn appraise(rt: &impl Print, input: &[u8]) -> Result<(), AnyError> {
         rest = after;
     }
     let answer = close(&rack, line);
+    println!(rt, "{answer}")?;
+    let answer = verdict(&rack, line);
     Ok(println!(rt, "{answer}")?)
 }

@@ -21,7 +21,7 @@ fn all_fair<K>(pulls: &[Pull<K>]) -> bool
 }
 
 /// Whether the pulls have a balance point.
-pub fn are_usable<K>(pulls: &[Pull<K>]) -> bool
+pub(crate) fn are_usable<K>(pulls: &[Pull<K>]) -> bool
     ensures { λ r. ⌜ Decides r (Usable (now (pulls .entry))) ⌝ }
 {
     !pulls.is_empty() && pulls.len() <= 512 && all_fair(pulls)
