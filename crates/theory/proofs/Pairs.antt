@@ -25,11 +25,11 @@ use Rattle.theory.proofs.Turning.{balanced-spans}
 use Rattle.theory.proofs.Descent.{turn-cheaper}
 
 -- ---- sums over the pairs of places i < j
-sumN-le : {T : Type 0} (f g : T → ℕ) (xs : List T) → ((x : T) → f x ≤ g x) → sumN f xs ≤ sumN g xs
+pub sumN-le : {T : Type 0} (f g : T → ℕ) (xs : List T) → ((x : T) → f x ≤ g x) → sumN f xs ≤ sumN g xs
 sumN-le f g [] h = omega arith
 sumN-le f g (x ∷ xs) h = omega (arith, h x, sumN-le f g xs h)
 
-sumN-lt : {T : Type 0} (f g : T → ℕ) (xs : List T) (z : T) → ((x : T) → f x ≤ g x) → In z xs → f z < g z → sumN f xs < sumN g xs
+pub sumN-lt : {T : Type 0} (f g : T → ℕ) (xs : List T) (z : T) → ((x : T) → f x ≤ g x) → In z xs → f z < g z → sumN f xs < sumN g xs
 sumN-lt f g [] z h i l = absurd i
 sumN-lt f g (x ∷ xs) z h (inl e) l = let k : f x < g x = at-eq (λ y. f y < g y) (sym e) l in omega (arith, sumN-le f g xs h)
 sumN-lt f g (x ∷ xs) z h (inr i) l = omega (arith, h x, sumN-lt f g xs z h i l)
@@ -87,11 +87,11 @@ beats-yes : (l : AnyLine) (xs : List Point) (x y : Point) → pos 0 <ℤ run x y
 unfolding beats
 beats-yes l xs x y r g = grind (arith, ints)
 
-beats-no : (l : AnyLine) (xs : List Point) (x y : Point) → (run x y *ℤ total l xs) ≤ℤ (l .a *ℤ total (through x y) xs) → beats l xs x y ≡ 0
+pub beats-no : (l : AnyLine) (xs : List Point) (x y : Point) → (run x y *ℤ total l xs) ≤ℤ (l .a *ℤ total (through x y) xs) → beats l xs x y ≡ 0
 unfolding beats
 beats-no l xs x y g = grind (arith, ints)
 
-beats-same : (l : AnyLine) (xs : List Point) (x y : Point) → run x y ≤ℤ pos 0 → beats l xs x y ≡ 0
+pub beats-same : (l : AnyLine) (xs : List Point) (x y : Point) → run x y ≤ℤ pos 0 → beats l xs x y ≡ 0
 unfolding beats
 beats-same l xs x y g = grind (arith, ints)
 
@@ -99,7 +99,7 @@ beats-same l xs x y g = grind (arith, ints)
 frac-trans : (a1 t1 a2 t2 a3 t3 : ℤ) → pos 0 <ℤ a1 → pos 0 <ℤ a2 → pos 0 <ℤ a3 → (a2 *ℤ t1) <ℤ (a1 *ℤ t2) → (a3 *ℤ t2) <ℤ (a2 *ℤ t3) → (a3 *ℤ t1) <ℤ (a1 *ℤ t3)
 frac-trans a1 t1 a2 t2 a3 t3 p q r g h = cancel-lt a2 (a3 *ℤ t1) (a1 *ℤ t3) q (from (prod-lt r g & prod-lt p h) (simp ring (simp flat (omega lin))))
 
-beats-mono : (m l : AnyLine) (xs : List Point) → pos 0 <ℤ m .a → pos 0 <ℤ l .a → Cheaper m l xs → (x y : Point) → beats m xs x y ≤ beats l xs x y
+pub beats-mono : (m l : AnyLine) (xs : List Point) → pos 0 <ℤ m .a → pos 0 <ℤ l .a → Cheaper m l xs → (x y : Point) → beats m xs x y ≤ beats l xs x y
 beats-mono m l xs p q g x y =
     by-ltZ (pos 0) (run x y)
     (λ r. by-ltZ (m .a *ℤ total (through x y) xs) (run x y *ℤ total m xs)
@@ -111,7 +111,7 @@ beats-mono m l xs p q g x y =
 own : (l : AnyLine) (xs : List Point) (z y : Point) → pos 0 <ℤ l .a → On l z → On l y → beats l xs z y ≡ 0
 own l xs z y a o p = let e = same-total l xs z y (weaken a) o p in beats-no l xs z y (omega lin)
 
-hit : (m l : AnyLine) (xs : List Point) (z y : Point) → pos 0 <ℤ m .a → pos 0 <ℤ run z y → On m z → On m y → Cheaper m l xs → beats l xs z y ≡ 1
+pub hit : (m l : AnyLine) (xs : List Point) (z y : Point) → pos 0 <ℤ m .a → pos 0 <ℤ run z y → On m z → On m y → Cheaper m l xs → beats l xs z y ≡ 1
 hit m l xs z y a r o p g = beats-yes l xs z y r
     (let e = same-total m xs z y (weaken a) o p in
     cancel-lt (m .a) (l .a *ℤ total (through z y) xs) (run z y *ℤ total l xs) a (from (prod-lt r g & scale (l .a) e) (simp ring (simp flat (omega lin)))))
