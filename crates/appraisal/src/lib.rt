@@ -1,5 +1,7 @@
 //! What a card costs over test shots, and which line is the cheapest: the text lines of the program
 //! `appraise`, read, judged and answered. The program only carries bytes in and answers out.
+#![tactic(auto)]
+
 mod answer;
 mod deciding;
 mod finding;

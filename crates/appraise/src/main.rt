@@ -1,6 +1,8 @@
 //! What does the card that is in the valve now cost over these test shots, and which line is the
 //! cheapest? The card and the shots come as text lines on standard input; each gets one answer. Then
 //! come the total and the verdict, each pivot of a fresh life of the shots, and the cheapest line.
+#![tactic(auto)]
+
 use appraisal::{Answer, close, find_best, judge, read_card, settles, text_line, verdict};
 use law::{Call, Moment, Reply};
 use racks::RecordRack;

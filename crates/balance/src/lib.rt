@@ -2,6 +2,8 @@
 //! A pull is a key with an under price and an over price. The balance point is the lowest key t among
 //! the pulls for which the under prices of all keys above t add up to at most the over prices of all
 //! keys at or below t. No list is sorted: a bracket of two keys closes in on the point.
+#![tactic(auto)]
+
 mod balance;
 mod bracket;
 mod fair;

@@ -1,5 +1,7 @@
 //! Worked examples, shown of the definitions themselves, in one table, and one whole life of a
 //! sheet. Each example has a name that says what it shows.
+#![tactic(auto)]
+
 mod concrete;
 mod own_calls;
 mod sample;

@@ -3,6 +3,8 @@
 //! A line's fields are parted by tabs. A field is a word, a number or a blank, and it is that part
 //! of the line: nothing is copied. Numbers are decimal, in one spelling each, so that what is
 //! written reads back as the number that was written, and what was read is written the same again.
+#![tactic(auto)]
+
 pub mod digits;
 pub mod fields;
 pub mod numbers;

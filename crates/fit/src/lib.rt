@@ -1,5 +1,7 @@
 //! A line against the shots of a rack, under a price rule: what it costs, whether it is the cheapest
 //! of all lines, the line to begin with, the line turned about a shot, and the offset for a slope.
+#![tactic(auto)]
+
 mod first;
 mod mounting;
 mod place;

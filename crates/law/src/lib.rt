@@ -1,6 +1,8 @@
 //! The law of a sheet's life: how far a sheet can have come, what may be called on it and what is
 //! answered, what one call does to what can be seen of a sheet, and what holds over every sequence of
 //! calls. It is proved here once, over values; the crate `sheet` has the calls that keep it.
+#![tactic(auto)]
+
 mod kinds;
 mod laws;
 mod stage;

@@ -55,15 +55,23 @@ one_slope s t up along h p q =
     let r = same_slope t.rise t.run s.rise s.run t.ahead s.ahead (cross_same up along t.rise t.run s.rise s.run h q p) t.lowest s.lowest in
     same_slopes t s r.0 r.1
 
--- the facts of a line's ghost fields, in their order
+-- the facts of a line's ghost fields, by their names
 abbrev pub Facts : ℤ → ℤ → ℤ → Type 0
 Facts a b c =
-    (pos 1 ≤ℤ a) × ((a ≤ℤ pos 3999) × ((negsuc 15999 ≤ℤ b) × ((b ≤ℤ pos 16000) × ((negsuc 95999999 ≤ℤ c) × ((c ≤ℤ pos 96000000) × (Coprime (nat_abs a) (nat_abs b) × Unit {0}))))))
+    record {
+      ahead : pos 1 ≤ℤ a;
+      fine : a ≤ℤ pos 3999;
+      fall : negsuc 15999 ≤ℤ b;
+      rise : b ≤ℤ pos 16000;
+      low : negsuc 95999999 ≤ℤ c;
+      high : c ≤ℤ pos 96000000;
+      lowest : Coprime (nat_abs a) (nat_abs b);
+    }
 
 pub facts : {a b c x y z : ℤ} → x ≡ a → y ≡ b → z ≡ c → IsLine a b c → Facts x y z
 facts {a} {b} {c} {x} {y} {z} e f g k =
     subst₂ (λ u v. Facts u v z) (sym e) (sym f)
-    (subst (λ w. Facts a b w) (sym g) (k.ahead, (k.fine, (k.fall, (k.rise, (k.low, (k.high, (k.lowest, tt))))))))
+    (subst (λ w. Facts a b w) (sym g) (record { ahead = k.ahead; fine = k.fine; fall = k.fall; rise = k.rise; low = k.low; high = k.high; lowest = k.lowest }))
 
 -- a line's numbers make a line
 pub made : (l : Line) {a b c : ℤ} → l.a ≡ a → l.b ≡ b → l.c ≡ c → IsLine a b c × Reads l a b c

@@ -1,5 +1,7 @@
 //! Lines through shots: which three numbers make one, how far a shot lies off it, what that costs,
 //! and which of two priced lines is cheaper.
+#![tactic(auto)]
+
 mod about;
 mod euclid;
 mod intercept;

@@ -1,5 +1,7 @@
 //! How long the calls on a sheet take, over 8, 64 and 512 shots of which half lie on one line. What they
 //! answered goes to standard output and is always the same; the times go to standard error.
+#![tactic(auto)]
+
 use law::Word;
 use racks::{Rack, RecordRack};
 use sheet::Sheet;

@@ -1,6 +1,8 @@
 //! Racks: shots in order, in memory that the caller lends. A rack is whatever answers as `Rack`
 //! says; here are one in records, one in packed bytes, a layer that negates each lead, and the rule
 //! that a lent rack is a rack.
+#![tactic(auto)]
+
 mod empty;
 mod lent;
 mod mirror;

@@ -1,5 +1,7 @@
 //! What everything else is made of: why a call refuses, test shots with their six-byte image,
 //! and the price rules that say what a late and an early shot cost.
+#![tactic(auto)]
+
 mod by_stuff;
 mod even;
 mod image;

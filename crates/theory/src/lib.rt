@@ -7,6 +7,8 @@
 //! of the turns about its own points has: that is the test. Where a turn about a point has one, the
 //! turn to the balance slope is strictly cheaper, and leaves fewer pairs of points whose line is
 //! cheaper still.
+#![tactic(auto)]
+
 mod count_laws;
 mod offset_laws;
 mod rate_laws;

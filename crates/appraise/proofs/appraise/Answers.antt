@@ -13,4 +13,4 @@ unreachable-requires-in-None-found g c =
     let fresh = c.open-fresh.result in
     let blank : Moment = record { call = Issue; reply = Done; pass = None } in
     let few = records_bounded rack.count rack.records.now rack.fits in
-    always_found _ 1025 (take rack.count rack.records.now) (take fresh.count fresh.records.now) _ (replicate 1025 blank) c.find-best-finding.new.moments c.find-best-finding.result.found c.find-best-finding.ensures.finds c.in-None-found.is (ap (λ n. take n fresh.records.now) c.open-fresh.ensures.empty) (omega arith) (omega arith) (lit≤ tt)
+    always_found _ 1025 (take rack.count rack.records.now) (take fresh.count fresh.records.now) _ (replicate 1025 blank) c.find_best-finding.new.moments c.find_best-finding.result.found c.find_best-finding.ensures.finds c.in-None-found.is (ap (λ n. take n fresh.records.now) c.open-fresh.ensures.empty) (omega arith) (omega arith) (lit≤ tt)

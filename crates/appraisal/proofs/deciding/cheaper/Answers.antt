@@ -10,13 +10,13 @@ pub unreachable-requires : goal.unreachable-requires
 unreachable-requires g c =
     let b = g.R.Rack.bounded c.args.rack.now in
     let e : to_z w32 c.args.place ≡ pos c.args.place = omega (arith, ints, c.requires.inside) in
-    some_rate c.args.line (g.R.Rack.held c.args.rack.now) c.args.place (to_z w32 c.args.place) e c.requires c.in-default.ensures
+    some_rate c.args.line (g.R.Rack.held c.args.rack.now) c.args.place (to_z w32 c.args.place) e c.requires c.in_default.ensures
 
-pub unreachable-requires-in-default-turned-line : goal.unreachable-requires-in-default-turned-line
-unreachable-requires-in-default-turned-line g c =
+pub unreachable-requires-in_default-turned_line : goal.unreachable-requires-in_default-turned_line
+unreachable-requires-in_default-turned_line g c =
     let b = g.R.Rack.bounded c.args.rack.now in
     let e : to_z w32 c.args.place ≡ pos c.args.place = omega (arith, ints, c.requires.inside) in
-    some_turn c.args.line (g.R.Rack.held c.args.rack.now) c.args.place (to_z w32 c.args.place) e c.requires c.in-default-turned-line.ensures.descends
+    some_turn c.args.line (g.R.Rack.held c.args.rack.now) c.args.place (to_z w32 c.args.place) e c.requires c.in_default-turned_line.ensures.descends
 
 pub returns : goal.returns
 returns g c =
@@ -27,19 +27,19 @@ returns g c =
     let e : to_z w32 k ≡ pos k = omega (arith, ints, c.requires.inside) in
     let f = c.requires in
     let fr : SFits w64 c.in-Some.rise = search rules in
-    let ff : SFits w64 c.in-Some-fall-rate.fall = search rules in
+    let ff : SFits w64 c.in-Some-fall_rate.fall = search rules in
     let ft : SFits w64 c.total.result = search rules in
-    let m = c.in-Some-turned-line.turned in
+    let m = c.in-Some-turned_line.turned in
     let ea : to_z w32 (of_z w32 m.a) ≡ m.a = omega (arith, ints) in
     let eb : to_z w32 (of_z w32 m.b) ≡ m.b = omega (arith, ints) in
     let ec : to_z w32 (of_z w32 m.c) ≡ m.c = omega (arith, ints) in
-    let t = turn_is l xs k (to_z w32 k) e f c.in-Some-turned-line.turned c.in-Some-turned-line.ensures.descends in (
+    let t = turn_is l xs k (to_z w32 k) e f c.in-Some-turned_line.turned c.in-Some-turned_line.ensures.descends in (
       refl,
       record {
         first = f;
         rise_is = to_z-of_z w64 c.in-Some.rise fr ∙ rate_is l xs k (to_z w32 k) e f (rise_at even l xs) c.in-Some.rise c.in-Some.ensures;
-        fall_is = to_z-of_z w64 c.in-Some-fall-rate.fall ff ∙ rate_is l xs k (to_z w32 k) e f (fall_at even l xs) c.in-Some-fall-rate.fall c.in-Some-fall-rate.ensures;
-        line = c.in-Some-turned-line.turned;
+        fall_is = to_z-of_z w64 c.in-Some-fall_rate.fall ff ∙ rate_is l xs k (to_z w32 k) e f (fall_at even l xs) c.in-Some-fall_rate.fall c.in-Some-fall_rate.ensures;
+        line = c.in-Some-turned_line.turned;
         numbers = record { a = sym ea; b = sym eb; c = sym ec };
         turned = t.1;
         cheaper = t.0;

@@ -6,10 +6,10 @@ use Rattle.appraisal.proofs.deciding.verdict.Goals as goal
 
 pub returns-in-Passes : goal.returns-in-Passes
 returns-in-Passes g c =
-    let two : c.has-two-speeds.result ≡ true = c.if-not-has-two-speeds.false in
-    (c.has-two-speeds.ensures.shots.0 two, c.in-Passes.ensures.best ((c.has-two-speeds.ensures.points even).0 two))
+    let two : c.has_two_speeds.result ≡ true = c.if-not-has_two_speeds.false in
+    (c.has_two_speeds.ensures.shots.0 two, c.in-Passes.ensures.best ((c.has_two_speeds.ensures.points even).0 two))
 
 pub returns-in-FailsAt : goal.returns-in-FailsAt
 returns-in-FailsAt g c =
-    let two : c.has-two-speeds.result ≡ true = c.if-not-has-two-speeds.false in
-    cheaper_verdict (g.R.Rack.held c.args.rack.now) c.args.line c.in-FailsAt.place c.cheaper.result (c.has-two-speeds.ensures.shots.0 two) c.cheaper.ensures
+    let two : c.has_two_speeds.result ≡ true = c.if-not-has_two_speeds.false in
+    cheaper_verdict (g.R.Rack.held c.args.rack.now) c.args.line c.in-FailsAt.place c.cheaper.result (c.has_two_speeds.ensures.shots.0 two) c.cheaper.ensures

@@ -15,8 +15,8 @@ last g c =
     let same = c.live-lived.auto.moments in
     (omega arith, omega arith)
 
-pub overflow-sub-last : goal.overflow-sub-last
-overflow-sub-last g c = let h = last g c in omega arith
+pub overflow_sub-last : goal.overflow_sub-last
+overflow_sub-last g c = let h = last g c in omega arith
 
 pub bounds-moments-last : goal.bounds-moments-last
 bounds-moments-last g c = let h = last g c in omega arith
@@ -38,7 +38,7 @@ returns-in-Some-count g c =
     let fits = l.1 in
     let same = c.live-lived.auto.moments in
     record {
-      finds = (l.0, omega arith, l.1, found l.2 l.3 c.index-moments-last.result c.in-force.result (omega arith) c.in-force.ensures);
+      finds = (l.0, omega arith, l.1, found l.2 l.3 c.index-moments-last.result c.in_force.result (omega arith) c.in_force.ensures);
       planned = (c.plan.result, c.plan.ensures);
       room = c.live-lived.ensures.room;
     }

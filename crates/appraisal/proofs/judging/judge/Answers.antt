@@ -4,8 +4,8 @@ use Rattle.appraisal.proofs.Entering.{entered_judges}
 use Rattle.appraisal.proofs.Writing.{shot_back}
 use Rattle.appraisal.proofs.judging.judge.Goals as goal
 
-pub judged-at-requires : goal.judged-at-requires
-judged-at-requires g c =
+pub judged_at-requires : goal.judged_at-requires
+judged_at-requires g c =
     let h = c.in-Ok.ensures.added.1 in
     let n = ap length h.2 ∙ length_push (g.R.Rack.held c.args.rack.now) h.0 in
     omega arith
@@ -33,5 +33,5 @@ returns-in-Ok g c =
     let fm : SFits w32 e.stuff = search rules in
     record {
       room = h.room;
-      judged = entered_judges _ (g.R.Rack.held c.args.rack.now) c.args.line _ c.args.number c.count-place.result c.judged-at.result _ c.count-place.ensures (record { s = _; h = _; w = _; m = _; written = shot_back _ _ _ _ _ fs fh fw fm c.in-Some.ensures; taken = h.added.0; shot = h.added.1.0; reads = h.added.1.1; added = h.added.1.2 }) c.judged-at.ensures;
+      judged = entered_judges _ (g.R.Rack.held c.args.rack.now) c.args.line _ c.args.number c.count-place.result c.judged_at.result _ c.count-place.ensures (record { s = _; h = _; w = _; m = _; written = shot_back _ _ _ _ _ fs fh fw fm c.in-Some.ensures; taken = h.added.0; shot = h.added.1.0; reads = h.added.1.1; added = h.added.1.2 }) c.judged_at.ensures;
     }

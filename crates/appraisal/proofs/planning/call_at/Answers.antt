@@ -5,8 +5,8 @@ use Rattle.law.specs.declared.kinds.Call.TheVariants.{Add}
 use Rattle.appraisal.proofs.Plans.{length_plan, add_at, pivot_at, not_lt}
 use Rattle.appraisal.proofs.planning.call_at.Goals as goal
 
-pub overflow-cast-i : goal.overflow-cast-i
-overflow-cast-i g c =
+pub overflow_cast-i : goal.overflow_cast-i
+overflow_cast-i g c =
     let b = g.R.Rack.bounded c.args.rack.now in
     let n = length_plan (g.R.Rack.held c.args.rack.now) in
     let h = c.requires in
@@ -21,10 +21,10 @@ returns-in-Ok g c =
     let z = c.in-Ok.shot in
     let holds = c.in-Ok.ensures in
     let k : nat_abs (to_z w32 c.args.i) ≡ c.args.i = omega (arith, ints) in
-    let es : to_z w32 (of_z w32 c.from.result) ≡ pos z.speed = let e = c.from.ensures in let f = c.from.type-inv in omega (arith, ints) in
-    let eh : to_z w32 (of_z w32 c.from-in-Ok.result) ≡ z.lead = let e = c.from-in-Ok.ensures in let f = c.from-in-Ok.type-inv in omega (arith, ints) in
-    let ew : to_z w32 (of_z w32 c.from-in-Ok-2.result) ≡ pos z.weight = let e = c.from-in-Ok-2.ensures in let f = c.from-in-Ok-2.type-inv in omega (arith, ints) in
-    let em : to_z w32 (of_z w32 c.from-in-Ok-3.result) ≡ pos z.stuff = let e = c.from-in-Ok-3.ensures in let f = c.from-in-Ok-3.type-inv in omega (arith, ints) in
+    let es : to_z w32 (of_z w32 c.from.result) ≡ pos z.speed = let e = c.from.ensures in let f = c.from.type_inv in omega (arith, ints) in
+    let eh : to_z w32 (of_z w32 c.from-in-Ok.result) ≡ z.lead = let e = c.from-in-Ok.ensures in let f = c.from-in-Ok.type_inv in omega (arith, ints) in
+    let ew : to_z w32 (of_z w32 c.from-in-Ok-2.result) ≡ pos z.weight = let e = c.from-in-Ok-2.ensures in let f = c.from-in-Ok-2.type_inv in omega (arith, ints) in
+    let em : to_z w32 (of_z w32 c.from-in-Ok-3.result) ≡ pos z.stuff = let e = c.from-in-Ok-3.ensures in let f = c.from-in-Ok-3.type_inv in omega (arith, ints) in
     (λ j. Add (es j) (eh j) (ew j) (em j)) ∙ add_at held _ c.args.i z _ (let i = holds.0.1 in omega (arith, ints)) (holds.1 ∙ ap (λ i. get_or held i z) k)
 
 pub returns-in-Err : goal.returns-in-Err

@@ -5,7 +5,7 @@ use Rattle.appraisal.proofs.Plans.{filled_more, filled_all}
 use Rattle.appraisal.proofs.planning.fill.Goals as goal
 
 pub loop-i-preserved : goal.loop-i-preserved
-loop-i-preserved g c = let n = c.requires.long in filled_more c.call-at.result c.loop-i.invariant (omega arith) (omega arith) c.call-at.ensures
+loop-i-preserved g c = let n = c.requires.long in filled_more c.call_at.result c.loop-i.invariant (omega arith) (omega arith) c.call_at.ensures
 
 pub returns : goal.returns
 returns g c =

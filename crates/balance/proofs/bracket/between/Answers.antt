@@ -2,14 +2,14 @@
 use Rattle.std.proofs.Common.{true, false, sym, refl, arith}
 use Rattle.balance.proofs.Counting.{counted_more, counted_all, passed_more, middle, none}
 use Rattle.balance.proofs.bracket.between.Goals as goal
-use Rattle.balance.proofs.bracket.between.Goals.{then-is-inside, else-is-inside, then-is-inside-2+else-left-eq0, else-is-inside-2}
+use Rattle.balance.proofs.bracket.between.Goals.{then-is_inside, else-is_inside, then-is_inside-2+else-left-eq0, else-is_inside-2}
 
 pub loop-pull-preserved : goal.loop-pull-preserved
 loop-pull-preserved g c =
     let more = counted_more c.loop-pull.invariant c.pull-item.result c.loop-pull-test.true c.pull-item.is in
-    elim c.if-is-inside.branch [
-      | then-is-inside w ↦ more true w.if-is-inside.ensures (omega (arith, w.count-is))
-      | else-is-inside w ↦ more false w.if-is-inside.ensures (omega (arith, w.count-is))
+    elim c.if-is_inside.branch [
+      | then-is_inside w ↦ more true w.if-is_inside.ensures (omega (arith, w.count-is))
+      | else-is_inside w ↦ more false w.if-is_inside.ensures (omega (arith, w.count-is))
     ]
 
 pub returns-then-left-eq0 : goal.returns-then-left-eq0
@@ -19,16 +19,16 @@ returns-then-left-eq0 g c = record {
   there = c.loop-pick-test.true;
   read = c.pick-item.is;
   same = refl;
-  lies = sym c.if-is-inside-2.ensures;
+  lies = sym c.if-is_inside-2.ensures;
   middle = middle c.loop-pick.invariant (counted_all c.loop-pull.invariant c.loop-pull-test.false) c.if-left-eq0.true;
 }
 
 pub loop-pick-preserved : goal.loop-pick-preserved
 loop-pick-preserved g c =
     let more = passed_more c.loop-pick.invariant c.pick-item.result c.loop-pick-test.true c.pick-item.is in
-    elim c.if-is-inside-2.branch [
-      | then-is-inside-2+else-left-eq0 w ↦ more true w.if-is-inside-2.ensures (omega (arith, w.left-is, w.if-left-eq0.false))
-      | else-is-inside-2 w ↦ more false w.if-is-inside-2.ensures (omega (arith, w.left-is))
+    elim c.if-is_inside-2.branch [
+      | then-is_inside-2+else-left-eq0 w ↦ more true w.if-is_inside-2.ensures (omega (arith, w.left-is, w.if-left-eq0.false))
+      | else-is_inside-2 w ↦ more false w.if-is_inside-2.ensures (omega (arith, w.left-is))
     ]
 
 pub returns : goal.returns

@@ -4,5 +4,5 @@ use Rattle.balance.proofs.whole_point.whole_balance_point.Goals as goal
 
 pub returns : goal.returns
 returns c =
-    let e = c.balance-point.ensures in
-    record { point = e.point; only = e.only; median = e.median; cheapest = answer_cheapest c.args.pulls.now c.balance-point.result e.point }
+    let e = c.balance_point.ensures in
+    record { point = e.point; only = e.only; median = e.median; cheapest = answer_cheapest c.args.pulls.now c.balance_point.result e.point }

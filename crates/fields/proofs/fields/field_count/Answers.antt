@@ -8,8 +8,8 @@ use Rattle.fields.proofs.Cuts.{count_parts}
 use Rattle.fields.proofs.fields.field_count.Goals as goal
 use Rattle.fields.proofs.fields.field_count.Goals.{then-b-eq9, else-b-eq9}
 
-pub overflow-add-count : goal.overflow-add-count
-overflow-add-count c =
+pub overflow_add-count : goal.overflow_add-count
+overflow_add-count c =
     let seen = take c.loop-b.b-index c.args.line.now in
     omega (arith, count_by-le-length is_tab seen, length-take-le c.loop-b.b-index c.args.line.now (omega arith))
 

@@ -12,12 +12,12 @@ use Rattle.fields.proofs.numbers.natural.Goals as goal
 seven : (i n most : ℕ) → n < 10 ^ i → i < most → most ≤ 8 → n < 10000000
 seven i n most small l m = omega (arith, pow-le-pow_right {n = 10} (omega arith) {i = i} {j = 7} (omega arith))
 
-pub overflow-mul-n : goal.overflow-mul-n
-overflow-mul-n c =
+pub overflow_mul-n : goal.overflow_mul-n
+overflow_mul-n c =
     omega (arith, seven c.loop-b.b-index c.loop-b.n (most_of c.args.digits) c.loop-b.invariant.1 (omega arith) (most_le c.args.digits))
 
-pub overflow-add-n : goal.overflow-add-n
-overflow-add-n c =
+pub overflow_add-n : goal.overflow_add-n
+overflow_add-n c =
     omega (arith, seven c.loop-b.b-index c.loop-b.n (most_of c.args.digits) c.loop-b.invariant.1 (omega arith) (most_le c.args.digits))
 
 pub loop-b-preserved : goal.loop-b-preserved

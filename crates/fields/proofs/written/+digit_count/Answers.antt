@@ -7,8 +7,8 @@ use Rattle.fields.proofs.written.+digit_count.Goals as goal
 pub returns-then-n-lt10 : goal.returns-then-n-lt10
 returns-then-n-lt10 t c = sym (length_one c.args.n c.if-n-lt10.true)
 
-pub overflow-add-result : goal.overflow-add-result
-overflow-add-result t c =
+pub overflow_add-result : goal.overflow_add-result
+overflow_add-result t c =
     omega (arith, length-decimal-le 20 c.args.n (omega arith) (omega arith) c.ranges.n.fits, length_more c.args.n c.if-n-lt10.false c.ranges.n.fits)
 
 pub returns : goal.returns

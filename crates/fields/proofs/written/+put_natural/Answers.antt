@@ -17,16 +17,16 @@ returns-then-n-lt10 t c =
     let one = length_one n c.if-n-lt10.true in
     record { end = omega arith; text = placed_one xs a (48 + n) (omega arith) ∙ ap (placed xs a) (sym (decimal_digit n c.if-n-lt10.true)) }
 
-pub put-natural-end-requires : goal.put-natural-end-requires
-put-natural-end-requires t c =
+pub put_natural-end-requires : goal.put_natural-end-requires
+put_natural-end-requires t c =
     let more = length_more c.args.n c.if-n-lt10.false c.ranges.n.fits in
     (omega arith, omega arith)
 
 pub bounds-out-end : goal.bounds-out-end
 bounds-out-end t c = omega (arith, length_more c.args.n c.if-n-lt10.false c.ranges.n.fits)
 
-pub overflow-add-result-2 : goal.overflow-add-result-2
-overflow-add-result-2 t c = omega (arith, length_more c.args.n c.if-n-lt10.false c.ranges.n.fits)
+pub overflow_add-result-2 : goal.overflow_add-result-2
+overflow_add-result-2 t c = omega (arith, length_more c.args.n c.if-n-lt10.false c.ranges.n.fits)
 
 pub returns : goal.returns
 returns t c =
@@ -37,5 +37,5 @@ returns t c =
     let d = 48 + n % 10 in
     let more = length_more n c.if-n-lt10.false c.ranges.n.fits in
     let step = decimal_step n c.if-n-lt10.false c.ranges.n.fits in
-    let last : set c.put-natural-end.new.out c.put-natural-end.result d ≡ set (placed xs a ys) (a + length ys) d = cc in
+    let last : set c.put_natural-end.new.out c.put_natural-end.result d ≡ set (placed xs a ys) (a + length ys) d = cc in
     record { end = omega arith; text = last ∙ placed_more xs a ys d (omega arith) ∙ ap (placed xs a) (sym step) }

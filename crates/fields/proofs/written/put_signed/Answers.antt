@@ -13,6 +13,6 @@ returns-then-z-lt0 c =
     let z = c.args.z in
     let text = signed_below z (omega (arith, ints)) in
     let size = ap length text in
-    let digits = ap decimal (simp (to_z-of_z c.ranges.z) at c.unsigned-abs.ensures.value) in
+    let digits = ap decimal (simp (to_z-of_z c.ranges.z) at c.unsigned_abs.ensures.value) in
     let count = ap length digits in
-    record { end = omega arith; text = c.put-natural.ensures.text ∙ ap (placed (set xs a 45) (a + 1)) digits ∙ placed_after xs a 45 (decimal (nat_abs z)) (omega arith) ∙ ap (placed xs a) (sym text) }
+    record { end = omega arith; text = c.put_natural.ensures.text ∙ ap (placed (set xs a 45) (a + 1)) digits ∙ placed_after xs a 45 (decimal (nat_abs z)) (omega arith) ∙ ap (placed xs a) (sym text) }

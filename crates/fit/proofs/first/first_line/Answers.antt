@@ -5,17 +5,17 @@ use Rattle.fit.proofs.first.first_line.Goals as goal
 
 pub returns-in-Some : goal.returns-in-Some
 returns-in-Some g c = record {
-  first = c.shot-at-first.result;
-  first_is = c.shot-at-first.ensures;
+  first = c.shot_at-first.result;
+  first_is = c.shot_at-first.ensures;
   place = c.loop-place.place;
   inside = omega arith;
-  other = c.shot-at-shot.result;
-  other_is = c.shot-at-shot.ensures;
+  other = c.shot_at-shot.result;
+  other_is = c.shot_at-shot.ensures;
   before = c.loop-place.invariant;
   laid = c.in-Some.ensures.rule;
 }
 
 pub loop-place-preserved : goal.loop-place-preserved
 loop-place-preserved g c =
-    let x = c.shot-at-first.result in
-    place_more (λ y. y.speed ≡ x.speed) (g.R.Rack.held c.args.rack.now) c.loop-place.place c.shot-at-shot.result (omega arith) c.shot-at-shot.ensures (sym c.in-default.ensures.rule) c.loop-place.invariant
+    let x = c.shot_at-first.result in
+    place_more (λ y. y.speed ≡ x.speed) (g.R.Rack.held c.args.rack.now) c.loop-place.place c.shot_at-shot.result (omega arith) c.shot_at-shot.ensures (sym c.in_default.ensures.rule) c.loop-place.invariant

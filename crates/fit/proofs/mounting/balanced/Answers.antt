@@ -17,11 +17,11 @@ loop-place-preserved g c =
     let held = g.R.Rack.held c.args.rack.now in
     let a = back w32 c.args.a in
     let b = back w32 c.args.b in
-    let z = c.shot-at-shot.result in
-    let q = c.offset-pull.result in
+    let z = c.shot_at-shot.result in
+    let q = c.offset_pull.result in
     let n = g.R.Rack.bounded c.args.rack.now in
     let l = c.loop-place.invariant.1 in (
-      fill_more (offset_pull tariff a b) held c.loop-place.pulls c.loop-place.place z q (omega arith) (omega arith) c.shot-at-shot.ensures (asked_pull tariff a b z _ c.prices-prices.result q c.from.ensures c.prices-prices.ensures c.offset-pull.ensures) c.loop-place.invariant.0,
+      fill_more (offset_pull tariff a b) held c.loop-place.pulls c.loop-place.place z q (omega arith) (omega arith) c.shot_at-shot.ensures (asked_pull tariff a b z _ c.prices-prices.result q c.from.ensures c.prices-prices.ensures c.offset_pull.ensures) c.loop-place.invariant.0,
       simp length-set l,
     )
 

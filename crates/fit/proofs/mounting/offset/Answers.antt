@@ -7,12 +7,12 @@ use Rattle.fit.proofs.Mounted.{lowest_best}
 use Rattle.fit.proofs.mounting.offset.Goals as goal
 
 pub balanced-requires : goal.balanced-requires
-balanced-requires g c = record { slope = search rules; some = some_held (g.R.Rack.held c.args.rack.now) c.is-empty.result c.is-empty.ensures c.if-is-empty.false }
+balanced-requires g c = record { slope = search rules; some = some_held (g.R.Rack.held c.args.rack.now) c.is_empty.result c.is_empty.ensures c.if-is_empty.false }
 
-pub returns-then-is-empty : goal.returns-then-is-empty
-returns-then-is-empty g c =
+pub returns-then-is_empty : goal.returns-then-is_empty
+returns-then-is_empty g c =
     let s = is_slope c.args.a c.args.b c.ranges.a c.ranges.b c.if-a-lt1.false c.if-a-gt4000.false c.if-b-ltminus16000.false c.if-b-gt16000.false in
-    record { offset = inr (s, c.is-empty.ensures.0 c.if-is-empty.true, refl); cheapest = tt }
+    record { offset = inr (s, c.is_empty.ensures.0 c.if-is_empty.true, refl); cheapest = tt }
 
 pub returns : goal.returns
 returns g c =

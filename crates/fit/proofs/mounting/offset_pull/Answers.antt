@@ -3,14 +3,14 @@ use Rattle.std.proofs.Common.{◌*◌, refl}
 use Rattle.fit.proofs.Crossing.{keyed, same_pull}
 use Rattle.fit.proofs.mounting.offset_pull.Goals as goal
 
-pub overflow-mul-result : goal.overflow-mul-result
-overflow-mul-result c = (keyed c.args.shot c.requires c.from.ensures refl).first
+pub overflow_mul-result : goal.overflow_mul-result
+overflow_mul-result c = (keyed c.args.shot c.requires c.from.ensures refl).first
 
-pub overflow-mul-result-2 : goal.overflow-mul-result-2
-overflow-mul-result-2 c = (keyed c.args.shot c.requires c.from.ensures c.from-2.ensures).second
+pub overflow_mul-result-2 : goal.overflow_mul-result-2
+overflow_mul-result-2 c = (keyed c.args.shot c.requires c.from.ensures c.from-2.ensures).second
 
-pub overflow-sub-result : goal.overflow-sub-result
-overflow-sub-result c = (keyed c.args.shot c.requires c.from.ensures c.from-2.ensures).fits
+pub overflow_sub-result : goal.overflow_sub-result
+overflow_sub-result c = (keyed c.args.shot c.requires c.from.ensures c.from-2.ensures).fits
 
 pub returns : goal.returns
 returns c =

@@ -7,21 +7,21 @@ use Rattle.fit.proofs.Running.{run_more, run_all, sum_map}
 use Rattle.fit.proofs.Told.{told_fall}
 use Rattle.fit.proofs.rates.fall_about.Goals as goal
 
-pub overflow-add-sum : goal.overflow-add-sum
-overflow-add-sum g c =
+pub overflow_add-sum : goal.overflow_add-sum
+overflow_add-sum g c =
     let tariff = g.P.PriceRule.tariff c.args.rule.now in
-    let y = c.shot-at-shot.result in
+    let y = c.shot_at-shot.result in
     let b = g.R.Rack.bounded c.args.rack.now in
-    let q = told_fall tariff c.args.line c.args.z y _ c.prices-prices.result _ (g.P.PriceRule.fair c.args.rule.now) c.from.ensures c.prices-prices.ensures c.fall-term-sum.ensures in
-    (run_more (λ x. fall_part (any c.args.line) (point tariff c.args.z) (point tariff x)) (g.R.Rack.held c.args.rack.now) 8000000 c.loop-place.place y _ _ _ (omega arith) (omega arith) (omega arith) c.loop-place.invariant refl c.shot-at-shot.ensures q.is q.size).0
+    let q = told_fall tariff c.args.line c.args.z y _ c.prices-prices.result _ (g.P.PriceRule.fair c.args.rule.now) c.from.ensures c.prices-prices.ensures c.fall_term-sum.ensures in
+    (run_more (λ x. fall_part (any c.args.line) (point tariff c.args.z) (point tariff x)) (g.R.Rack.held c.args.rack.now) 8000000 c.loop-place.place y _ _ _ (omega arith) (omega arith) (omega arith) c.loop-place.invariant refl c.shot_at-shot.ensures q.is q.size).0
 
 pub loop-place-preserved : goal.loop-place-preserved
 loop-place-preserved g c =
     let tariff = g.P.PriceRule.tariff c.args.rule.now in
-    let y = c.shot-at-shot.result in
+    let y = c.shot_at-shot.result in
     let b = g.R.Rack.bounded c.args.rack.now in
-    let q = told_fall tariff c.args.line c.args.z y _ c.prices-prices.result _ (g.P.PriceRule.fair c.args.rule.now) c.from.ensures c.prices-prices.ensures c.fall-term-sum.ensures in
-    (run_more (λ x. fall_part (any c.args.line) (point tariff c.args.z) (point tariff x)) (g.R.Rack.held c.args.rack.now) 8000000 c.loop-place.place y _ _ _ (omega arith) (omega arith) (omega arith) c.loop-place.invariant refl c.shot-at-shot.ensures q.is q.size).1
+    let q = told_fall tariff c.args.line c.args.z y _ c.prices-prices.result _ (g.P.PriceRule.fair c.args.rule.now) c.from.ensures c.prices-prices.ensures c.fall_term-sum.ensures in
+    (run_more (λ x. fall_part (any c.args.line) (point tariff c.args.z) (point tariff x)) (g.R.Rack.held c.args.rack.now) 8000000 c.loop-place.place y _ _ _ (omega arith) (omega arith) (omega arith) c.loop-place.invariant refl c.shot_at-shot.ensures q.is q.size).1
 
 pub returns : goal.returns
 returns g c =

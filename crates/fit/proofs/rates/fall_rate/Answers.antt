@@ -8,5 +8,5 @@ pub returns-in-Some : goal.returns-in-Some
 returns-in-Some g c =
     let z = c.in-Some.z in
     let h = subst (λ p. OnAt c.args.line (g.R.Rack.held c.args.rack.now) p (Some z)) (to_z-of_z w32 c.args.place c.ranges.place) c.in-Some.ensures in
-    let f : SFits w64 c.fall-about.result = search rules in
-    (z, h, to_z-of_z w64 c.fall-about.result f ∙ c.fall-about.ensures)
+    let f : SFits w64 c.fall_about.result = search rules in
+    (z, h, to_z-of_z w64 c.fall_about.result f ∙ c.fall_about.ensures)

@@ -10,8 +10,8 @@ returns-in-Some g c =
     let l = c.args.line in
     let xs = g.R.Rack.held c.args.rack.now in
     let v = c.in-Some.speed in
-    let d : Decides c.is-other-on.result (TwoSpeeds l xs) = (λ e. two_from l xs v c.in-Some.ensures (c.is-other-on.ensures.0 e), λ t. c.is-other-on.ensures.1 (one_other l xs v t)) in
-    record { shots = d; points = spans_all l xs c.is-other-on.result d }
+    let d : Decides c.is_other_on.result (TwoSpeeds l xs) = (λ e. two_from l xs v c.in-Some.ensures (c.is_other_on.ensures.0 e), λ t. c.is_other_on.ensures.1 (one_other l xs v t)) in
+    record { shots = d; points = spans_all l xs c.is_other_on.result d }
 
 pub returns-in-None : goal.returns-in-None
 returns-in-None g c =

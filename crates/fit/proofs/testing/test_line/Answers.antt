@@ -12,8 +12,8 @@ returns-then-fails g c =
     let k = c.loop-place.place in
     let first : First tariff c.args.line held k = record {
       inside = omega arith;
-      shot = c.shot-at-shot.result;
-      is = c.shot-at-shot.ensures;
+      shot = c.shot_at-shot.result;
+      is = c.shot_at-shot.ensures;
       fails = c.fails.ensures.0 c.if-fails.true;
       before = c.loop-place.invariant;
     } in
@@ -23,7 +23,7 @@ pub loop-place-preserved : goal.loop-place-preserved
 loop-place-preserved g c =
     let tariff = g.P.PriceRule.tariff c.args.rule.now in
     let held = g.R.Rack.held c.args.rack.now in
-    place_more (λ y. Fails tariff c.args.line held y → ⊥) held c.loop-place.place c.shot-at-shot.result (omega arith) c.shot-at-shot.ensures (λ f. not_both _ (c.fails.ensures.1 f) c.if-fails.false) c.loop-place.invariant
+    place_more (λ y. Fails tariff c.args.line held y → ⊥) held c.loop-place.place c.shot_at-shot.result (omega arith) c.shot_at-shot.ensures (λ f. not_both _ (c.fails.ensures.1 f) c.if-fails.false) c.loop-place.invariant
 
 pub returns : goal.returns
 returns g c =

@@ -6,23 +6,23 @@ use Rattle.fit.proofs.Running.{run_more, run_all}
 use Rattle.fit.proofs.Adding.{shared, paid_nn, total_bounded, total_even, total_points}
 use Rattle.fit.proofs.totals.total.Goals as goal
 
-pub overflow-add-sum : goal.overflow-add-sum
-overflow-add-sum g c =
+pub overflow_add-sum : goal.overflow_add-sum
+overflow_add-sum g c =
     let tariff = g.P.PriceRule.tariff c.args.rule.now in
     let held = g.R.Rack.held c.args.rack.now in
-    let z = c.shot-at-shot.result in
+    let z = c.shot_at-shot.result in
     let b = g.R.Rack.bounded c.args.rack.now in
     let q = shared tariff c.args.line z _ c.prices-prices.result _ (g.P.PriceRule.fair c.args.rule.now) c.from.ensures c.prices-prices.ensures c.share-sum.ensures.value c.share-sum.ensures.bound.0 c.share-sum.ensures.bound.1 in
-    (run_more (paid tariff c.args.line) held 383984000000 c.loop-place.place z _ _ _ (omega arith) (omega arith) (omega arith) c.loop-place.invariant refl c.shot-at-shot.ensures q.is q.size).0
+    (run_more (paid tariff c.args.line) held 383984000000 c.loop-place.place z _ _ _ (omega arith) (omega arith) (omega arith) c.loop-place.invariant refl c.shot_at-shot.ensures q.is q.size).0
 
 pub loop-place-preserved : goal.loop-place-preserved
 loop-place-preserved g c =
     let tariff = g.P.PriceRule.tariff c.args.rule.now in
     let held = g.R.Rack.held c.args.rack.now in
-    let z = c.shot-at-shot.result in
+    let z = c.shot_at-shot.result in
     let b = g.R.Rack.bounded c.args.rack.now in
     let q = shared tariff c.args.line z _ c.prices-prices.result _ (g.P.PriceRule.fair c.args.rule.now) c.from.ensures c.prices-prices.ensures c.share-sum.ensures.value c.share-sum.ensures.bound.0 c.share-sum.ensures.bound.1 in
-    (run_more (paid tariff c.args.line) held 383984000000 c.loop-place.place z _ _ _ (omega arith) (omega arith) (omega arith) c.loop-place.invariant refl c.shot-at-shot.ensures q.is q.size).1
+    (run_more (paid tariff c.args.line) held 383984000000 c.loop-place.place z _ _ _ (omega arith) (omega arith) (omega arith) c.loop-place.invariant refl c.shot_at-shot.ensures q.is q.size).1
 
 pub returns : goal.returns
 returns g c =

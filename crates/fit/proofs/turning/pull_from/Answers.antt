@@ -5,8 +5,8 @@ use Rattle.lines.proofs.Laying.{differences}
 use Rattle.fit.proofs.Pulling.{price_is}
 use Rattle.fit.proofs.turning.pull_from.Goals as goal
 
-pub overflow-sub-ahead : goal.overflow-sub-ahead
-overflow-sub-ahead c =
+pub overflow_sub-ahead : goal.overflow_sub-ahead
+overflow_sub-ahead c =
     let r = differences c.args.slow c.args.fast c.in-Some.key c.from.ensures c.from-2.ensures c.from-3.ensures c.from-4.ensures c.in-Some.ensures.value in
     omega (arith, ints, r.forward)
 
@@ -18,6 +18,6 @@ returns-in-Some c =
     let h : slow.speed ≤ fast.speed = omega (arith, ints, r.forward) in
     record {
       key = r;
-      under = price_is slow fast (c.args.weight * c.args.under) c.pull-price.result h c.pull-price.ensures;
-      over = price_is slow fast (c.args.weight * c.args.over) c.pull-price-in-Some.result h c.pull-price-in-Some.ensures;
+      under = price_is slow fast (c.args.weight * c.args.under) c.pull_price.result h c.pull_price.ensures;
+      over = price_is slow fast (c.args.weight * c.args.over) c.pull_price-in-Some.result h c.pull_price-in-Some.ensures;
     }

@@ -13,8 +13,8 @@ returns-in-Ok g c =
     let z = c.in-Ok.z in
     let h = subst (λ q. Holds held q × (z ≡ get_or held (nat_abs q) z)) (to_z-of_z w32 p c.ranges.place) c.in-Ok.ensures in
     record {
-      turned = turned_at tariff held p z h.0 h.1 c.turn-about.result c.turn-about.ensures;
-      descends = descends tariff (g.P.PriceRule.fair c.args.rule.now) held p z h.0 h.1 c.turn-about.result c.turn-about.ensures;
+      turned = turned_at tariff held p z h.0 h.1 c.turn_about.result c.turn_about.ensures;
+      descends = descends tariff (g.P.PriceRule.fair c.args.rule.now) held p z h.0 h.1 c.turn_about.result c.turn_about.ensures;
     }
 
 pub returns-in-Err : goal.returns-in-Err

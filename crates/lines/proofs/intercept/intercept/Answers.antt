@@ -15,14 +15,14 @@ here c =
     crossed c.args.shot (record { low = omega (arith, ints); high = omega (arith, ints) })
     (record { low = omega (arith, ints); high = omega (arith, ints) }) c.from.ensures c.from-2.ensures
 
-pub overflow-mul-result : goal.overflow-mul-result
-overflow-mul-result c = (crossed c.args.shot (a_size c) (b_size c) c.from.ensures refl).first
+pub overflow_mul-result : goal.overflow_mul-result
+overflow_mul-result c = (crossed c.args.shot (a_size c) (b_size c) c.from.ensures refl).first
 
-pub overflow-mul-result-2 : goal.overflow-mul-result-2
-overflow-mul-result-2 c = (here c).second
+pub overflow_mul-result-2 : goal.overflow_mul-result-2
+overflow_mul-result-2 c = (here c).second
 
-pub overflow-sub-result : goal.overflow-sub-result
-overflow-sub-result c = (here c).ranges
+pub overflow_sub-result : goal.overflow_sub-result
+overflow_sub-result c = (here c).fits
 
 pub returns : goal.returns
 returns c = let k = here c in record { value = k.value; small = (k.low, k.high) }

@@ -8,28 +8,29 @@ use Rattle.lines.proofs.reduce.reduced.Goals as goal
 
 here : (c : goal.After-gcd-divisor) → Found c.args.rise c.args.run c.gcd-divisor.result
 here c =
-    found c.args.rise c.args.run c.unsigned-abs.result c.gcd-divisor.result c.ranges.rise c.ranges.run c.if-run-le0.false c.unsigned-abs.ensures.value c.gcd-divisor.ensures
+    found c.args.rise c.args.run c.unsigned_abs.result c.gcd-divisor.result c.ranges.rise c.ranges.run c.if-run-le0.false c.unsigned_abs.ensures.value c.gcd-divisor.ensures
 
-pub overflow-cast-divisor : goal.overflow-cast-divisor
-overflow-cast-divisor c = omega (arith, ints, (here c).small)
+pub overflow_cast-divisor : goal.overflow_cast-divisor
+overflow_cast-divisor c = omega (arith, ints, (here c).small)
 
-pub nonzero-div-result : goal.nonzero-div-result
-nonzero-div-result c = let k = here c in (k.above, quot_fits k.top k.small)
+pub nonzero_div-result : goal.nonzero_div-result
+nonzero_div-result c = let k = here c in (k.above, quot_fits k.top k.small)
 
-pub nonzero-div-result-2 : goal.nonzero-div-result-2
-nonzero-div-result-2 c = let k = here c in (k.above, quot_fits k.bottom k.small)
+pub nonzero_div-result-2 : goal.nonzero_div-result-2
+nonzero_div-result-2 c = let k = here c in (k.above, quot_fits k.bottom k.small)
 
-pub invariant-of-result : goal.invariant-of-result
-invariant-of-result c =
+pub invariant_of-result : goal.invariant_of-result
+invariant_of-result c =
     let k = here c in
     let a = quot_back k.top k.small in
-    let b = quot_back k.bottom k.small in (
-      subst (λ z. pos 0 <ℤ z) (sym b) (quot_ahead k),
-      (subst₂ (λ y z. Coprime (nat_abs y) (nat_abs z)) (sym a) (sym b) (quot_lowest k), tt),
-    )
+    let b = quot_back k.bottom k.small in
+    record {
+      ahead = subst (λ z. pos 0 <ℤ z) (sym b) (quot_ahead k);
+      lowest = subst₂ (λ y z. Coprime (nat_abs y) (nat_abs z)) (sym a) (sym b) (quot_lowest k);
+    }
 
 pub returns : goal.returns
 returns c =
-    let k = found c.args.rise c.args.run c.unsigned-abs.result c.gcd-divisor.result c.ranges.rise c.ranges.run c.if-run-le0.false c.unsigned-abs.ensures.value c.gcd-divisor.ensures in
+    let k = found c.args.rise c.args.run c.unsigned_abs.result c.gcd-divisor.result c.ranges.rise c.ranges.run c.if-run-le0.false c.unsigned_abs.ensures.value c.gcd-divisor.ensures in
     let r = quot_reduced k _ (quot_back k.top k.small) (quot_back k.bottom k.small) in
     record { value = r; only = λ t w. one_slope _ t c.args.rise c.args.run k.ahead r.worth w }

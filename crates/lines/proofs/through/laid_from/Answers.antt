@@ -9,8 +9,8 @@ pub intercept-requires : goal.intercept-requires
 intercept-requires c =
     (laying c.args.slow c.args.fast c.in-Some.slope c.from.ensures c.from-2.ensures c.from-3.ensures c.from-4.ensures c.in-Some.ensures.value).needed
 
-pub invariant-of-result : goal.invariant-of-result
-invariant-of-result c =
+pub invariant_of-result : goal.invariant_of-result
+invariant_of-result c =
     let z : Sized 95992000 c.intercept.result = record { low = omega (arith, ints); high = omega (arith, ints) } in
     (laying c.args.slow c.args.fast c.in-Some.slope c.from.ensures c.from-2.ensures c.from-3.ensures c.from-4.ensures c.in-Some.ensures.value).ghosts z
 

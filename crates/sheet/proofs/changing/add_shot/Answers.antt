@@ -8,4 +8,4 @@ returns g c =
     let f2 = c.ranges.lead in
     let f3 = c.ranges.weight in
     let f4 = c.ranges.stuff in
-    record { added = simp to_z-of_z at c.in-ok-add.ensures.added; stage = c.after_add.ensures; room = c.in-ok-add.ensures.room }
+    record { added = simp to_z-of_z at c.in_ok-add.ensures.added; stage = c.after_add.ensures; room = c.in_ok-add.ensures.room }

@@ -15,4 +15,4 @@ returns-in-Best-clause-writes g c =
 
 pub returns-in-NoLine-clause-writes : goal.returns-in-NoLine-clause-writes
 returns-in-NoLine-clause-writes g c =
-    subst (λ (a : Answer). WritesOnOk g.W.Write.write_str_gives c.args.f.now c.write-str-in-NoLine.result (text_of a) c.write-str-in-NoLine.new.self) (sym c.in-NoLine.is) c.write-str-in-NoLine.ensures.writes
+    subst (λ (a : Answer). WritesOnOk g.W.Write.write_str_gives c.args.f.now c.write_str-in-NoLine.result (text_of a) c.write_str-in-NoLine.new.self) (sym c.in-NoLine.is) c.write_str-in-NoLine.ensures.writes

@@ -6,8 +6,8 @@ use Rattle.lines.proofs.Abouts.{about_line, about_on}
 use Rattle.lines.proofs.Ghosts.{facts}
 use Rattle.lines.proofs.line.Line.about.Goals as goal
 
-pub invariant-of-result : goal.invariant-of-result
-invariant-of-result c =
+pub invariant_of-result : goal.invariant_of-result
+invariant_of-result c =
     let t = c.args.slope in
     let k : Fits t = record { fine = omega (arith, ints); fall = omega (arith, ints); rise = omega (arith, ints) } in
     facts (omega (arith, ints)) (omega (arith, ints)) (omega (arith, ints)) (about_line t c.intercept.result k c.intercept.ensures.small.0 c.intercept.ensures.small.1)

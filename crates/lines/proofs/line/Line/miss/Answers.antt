@@ -4,8 +4,8 @@ use Rattle.std.proofs.lemmas.Int.{ints}
 use Rattle.lines.proofs.Sizes.{Sized, missed}
 use Rattle.lines.proofs.line.Line.miss.Goals as goal
 
-pub overflow-sub-result : goal.overflow-sub-result
-overflow-sub-result c = omega (arith, ints)
+pub overflow_sub-result : goal.overflow_sub-result
+overflow_sub-result c = omega (arith, ints)
 
 pub returns : goal.returns
 returns c =

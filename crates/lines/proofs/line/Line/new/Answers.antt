@@ -8,12 +8,12 @@ use Rattle.lines.proofs.line.Line.new.Goals as goal
 
 pub returns-then-gcd-ne1 : goal.returns-then-gcd-ne1
 returns-then-gcd-ne1 c l =
-    let g = gcd_back c.args.b c.args.a c.unsigned-abs.result c.gcd.result c.ranges.b c.ranges.a c.unsigned-abs.ensures.value c.gcd.ensures in
+    let g = gcd_back c.args.b c.args.a c.unsigned_abs.result c.gcd.result c.ranges.b c.ranges.a c.unsigned_abs.ensures.value c.gcd.ensures in
     c.if-gcd-ne1.true (coprime_gcd g (coprime_swap l.lowest))
 
-pub invariant-of-result : goal.invariant-of-result
-invariant-of-result c =
-    let g = gcd_back c.args.b c.args.a c.unsigned-abs.result c.gcd.result c.ranges.b c.ranges.a c.unsigned-abs.ensures.value c.gcd.ensures in
+pub invariant_of-result : goal.invariant_of-result
+invariant_of-result c =
+    let g = gcd_back c.args.b c.args.a c.unsigned_abs.result c.gcd.result c.ranges.b c.ranges.a c.unsigned_abs.ensures.value c.gcd.ensures in
     facts (to_z-of_z w32 c.args.a c.ranges.a) (to_z-of_z w32 c.args.b c.ranges.b) (to_z-of_z w32 c.args.c c.ranges.c)
     (record {
       ahead = grind (arith, ints);

@@ -8,13 +8,13 @@ use Rattle.lines.proofs.line.Line.share.Goals as goal
 pub returns-in-Late : goal.returns-in-Late
 returns-in-Late c =
     let k : Sized 191992000 c.miss-miss.result = record { low = omega (arith, ints); high = omega (arith, ints) } in
-    let s = late_share c.args.shot.weight c.args.prices.0 c.args.prices.1 c.args.shot.light k c.miss-miss.ensures.value c.in-Late.ensures (record { sfits = c.charge.type-inv }) c.charge.ensures in
+    let s = late_share c.args.shot.weight c.args.prices.0 c.args.prices.1 c.args.shot.light k c.miss-miss.ensures.value c.in-Late.ensures (record { sfits = c.charge.type_inv }) c.charge.ensures in
     record { value = s.value; bound = s.bound }
 
 pub returns-in-Early : goal.returns-in-Early
 returns-in-Early c =
     let k : Sized 191992000 c.miss-miss.result = record { low = omega (arith, ints); high = omega (arith, ints) } in
-    let s = early_share c.args.shot.weight c.args.prices.0 c.args.prices.1 c.args.shot.light k c.miss-miss.ensures.value c.in-Early.ensures (record { sfits = c.charge-in-Early.type-inv }) c.charge-in-Early.ensures in
+    let s = early_share c.args.shot.weight c.args.prices.0 c.args.prices.1 c.args.shot.light k c.miss-miss.ensures.value c.in-Early.ensures (record { sfits = c.charge-in-Early.type_inv }) c.charge-in-Early.ensures in
     record { value = s.value; bound = s.bound }
 
 pub returns-in-On : goal.returns-in-On

@@ -5,10 +5,10 @@ use Rattle.lines.proofs.line.Line.through.Goals as goal
 
 pub returns-then-p-q : goal.returns-then-p-q
 returns-then-p-q c =
-    let k = drawn c.args.p c.args.q c.laid-from.result (omega arith) c.laid-from.ensures in
-    record { rule = k.rule; through-both = k.both; only = k.only; swapped = k.swapped }
+    let k = drawn c.args.p c.args.q c.laid_from.result (omega arith) c.laid_from.ensures in
+    record { rule = k.rule; through_both = k.both; only = k.only; swapped = k.swapped }
 
 pub returns-else-p-q : goal.returns-else-p-q
 returns-else-p-q c =
-    let k = drawn c.args.q c.args.p c.laid-from-else-p-q.result c.if-p-q.false c.laid-from-else-p-q.ensures in
-    record { rule = k.swapped; through-both = k.both_swapped; only = k.only_swapped; swapped = k.rule }
+    let k = drawn c.args.q c.args.p c.laid_from-else-p-q.result c.if-p-q.false c.laid_from-else-p-q.ensures in
+    record { rule = k.swapped; through_both = k.both_swapped; only = k.only_swapped; swapped = k.rule }

@@ -6,12 +6,12 @@ use Rattle.racks.proofs.Steps.{at_place, struck_at, struck_none}
 use Rattle.racks.proofs.Packs.{closed}
 use Rattle.racks.proofs.packed_rack.PackedRackRack.strike.Goals as goal
 
-pub invariant-of-self : goal.invariant-of-self
-invariant-of-self c =
+pub invariant_of-self : goal.invariant_of-self
+invariant_of-self c =
     let rack = c.args.self.now in
     let within : 6 * rack.count ≤ length rack.bytes.now = omega (arith, rack.fits) in
-    let now = closed rack.count rack.bytes.now rack.whole _ _ _ refl c.in-Some.ensures.1 within c.copy-within.ensures.after in
-    (omega (arith, now.long, rack.fits), (now.whole, tt))
+    let now = closed rack.count rack.bytes.now rack.whole _ _ _ refl c.in-Some.ensures.1 within c.copy_within.ensures.after in
+    record { fits = omega (arith, now.long, rack.fits); whole = now.whole }
 
 pub returns-in-Some : goal.returns-in-Some
 returns-in-Some c =
@@ -21,11 +21,11 @@ returns-in-Some c =
     let n = rack.count in
     let bs = rack.bytes.now in
     let within : 6 * n ≤ length bs = omega (arith, rack.fits) in
-    let now = closed n bs rack.whole _ _ _ refl at.1 within c.copy-within.ensures.after in
+    let now = closed n bs rack.whole _ _ _ refl at.1 within c.copy_within.ensures.after in
     record {
       struck = struck_at _ _ c.args.place _ c.in-Some.index (length_shots n bs) at now.held;
       room = ap (λ k. min 512 (k / 6)) now.long;
-      memory = at_place (λ k. moved_down (6 * k) (6 * (k + 1)) (6 * n) bs) _ c.args.place c.in-Some.index at.0 c.copy-within.ensures.after;
+      memory = at_place (λ k. moved_down (6 * k) (6 * (k + 1)) (6 * n) bs) _ c.args.place c.in-Some.index at.0 c.copy_within.ensures.after;
       lender = refl;
     }
 

@@ -14,10 +14,10 @@ returns-in-Some c =
     let n = rack.count in
     let rs = rack.records.now in
     let within : n ≤ length rs = omega (arith, rack.fits) in
-    let now = closed n rs _ _ c.in-Some.index refl at.1 within c.copy-within.ensures.after in
+    let now = closed n rs _ _ c.in-Some.index refl at.1 within c.copy_within.ensures.after in
     record {
       struck = struck_at _ _ c.args.place n c.in-Some.index (length-take-le n rs within) at now.held;
       room = ap (min 512) now.long;
-      memory = at_place (λ k. moved_down k (k + 1) n rs) _ c.args.place c.in-Some.index at.0 c.copy-within.ensures.after;
+      memory = at_place (λ k. moved_down k (k + 1) n rs) _ c.args.place c.in-Some.index at.0 c.copy_within.ensures.after;
       lender = refl;
     }

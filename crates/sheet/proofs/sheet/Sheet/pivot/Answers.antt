@@ -15,7 +15,7 @@ returns-in-Trying-FailsAt g c =
     let h = c.told-in-Trying-FailsAt.ensures in
     let i = c.in-Trying-FailsAt in
     let first = found (g.P.PriceRule.tariff c.args.self.now.rule) (g.R.Rack.held c.args.self.now.rack) _ _ i.line _ c.outcome-outcome.ensures i.is-0 i.is-1 in
-    record { called = tells _ _ (Trying i.line) c.told-in-Trying-FailsAt.result Moved _ i.is-0 h.word h.line h.total (i.place, first, c.turned-at-turned.ensures, refl); rack = refl; rule = refl }
+    record { called = tells _ _ (Trying i.line) c.told-in-Trying-FailsAt.result Moved _ i.is-0 h.word h.line h.total (i.place, first, c.turned_at-turned.ensures, refl); rack = refl; rule = refl }
 
 pub returns-in-Trying-Passes : goal.returns-in-Trying-Passes
 returns-in-Trying-Passes g c =

@@ -10,7 +10,7 @@ returns-in-Some g c =
     let e = ap in_force c.in-InForce.is in
     let h = c.in-Some.ensures in
     let v = sees g.R.Rack.held g.R.Rack.capacity g.P.PriceRule.tariff c.args.self.now in
-    record { called = written _ _ _ c.in-InForce.line e h.0 h.1; rows = (c.in-InForce.line, e, h.2); life = λ past l. in_life past v c.args.table.now (Ok c.in-Some.count) c.write-rows.new.table (c.in-InForce.line, e, h.2) l }
+    record { called = written _ _ _ c.in-InForce.line e h.0 h.1; rows = (c.in-InForce.line, e, h.2); life = λ past l. in_life past v c.args.table.now (Ok c.in-Some.count) c.write_rows.new.table (c.in-InForce.line, e, h.2) l }
 
 pub returns-in-None : goal.returns-in-None
 returns-in-None g c =

@@ -3,12 +3,13 @@ use Rattle.std.proofs.lemmas.Int.{ints, to_z-of_z}
 use Rattle.shots.proofs.Tables.{set_keeps}
 use Rattle.shots.proofs.stuff_prices.StuffPrices.set.Goals as goal
 
-pub invariant-of-self : goal.invariant-of-self
-invariant-of-self c =
-    let self = c.args.self.now in (
-      set_keeps (λ p. (1 ≤ p.0) × (p.0 ≤ 20)) self.table _ _ (1, 1) (omega (arith, ints), omega (arith, ints)) self.late,
-      (set_keeps (λ p. (1 ≤ p.1) × (p.1 ≤ 20)) self.table _ _ (1, 1) (omega (arith, ints), omega (arith, ints)) self.early, tt),
-    )
+pub invariant_of-self : goal.invariant_of-self
+invariant_of-self c =
+    let self = c.args.self.now in
+    record {
+      late = set_keeps (λ p. (1 ≤ p.0) × (p.0 ≤ 20)) self.table _ _ (1, 1) (omega (arith, ints), omega (arith, ints)) self.late;
+      early = set_keeps (λ p. (1 ≤ p.1) × (p.1 ≤ 20)) self.table _ _ (1, 1) (omega (arith, ints), omega (arith, ints)) self.early;
+    }
 
 pub returns : goal.returns
 returns c =
