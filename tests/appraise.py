@@ -87,35 +87,12 @@ def verdict(line, shots):
     return "cheapest"
 
 
-def told(line, shots):
-    """A, B, C and T of a line, with its slope reduced."""
-    a = line[0].denominator
-    return "\t".join(map(str, (a, line[0].numerator, line[1] * a, price(line, shots) * a)))
-
-
 def failing(line, shots):
     """The first shot on the line with a rate below 0, or None."""
     for z in shots:
         if z[1] == line[0] * z[0] + line[1] and min(rates(line, shots, z[0])) < 0:
             return z
     return None
-
-
-def pivots(shots):
-    """What a fresh sheet of the shots answers to its pivots, up to the one that proves the line, and then the cheapest line."""
-    other = next((z for z in shots if z[0] != shots[0][0]), None)
-    if other is None:
-        return ["no\t7", "no line\tfewer than two speeds"]
-    line = through(shots[0], other)
-    answers = ["laid\t" + told(line, shots)]
-    while (z := failing(line, shots)) is not None:
-        new = turned(shots, z)
-        assert price(new, shots) < price(line, shots)
-        line = new
-        answers.append("moved\t" + told(line, shots))
-    answers.append("proved\t" + told(line, shots))
-    assert len(answers) <= len(shots) + 1 and price(line, shots) == least(shots)
-    return answers + ["best\t" + told(line, shots)]
 
 
 def main():
@@ -145,7 +122,6 @@ def main():
     cut = floor(cost * 1000)
     print("total", cost * a, a, f"{cut // 1000}.{cut % 1000:03}", sep="\t")
     print(verdict(line, shots))
-    print("\n".join(pivots(shots)))
 
 
 if __name__ == "__main__":

@@ -1,7 +1,7 @@
 -- How an answer is written: its parts, parted by tabs.
 --   side_text      a side as a word
 --   failing_text   a place and its two rates
---   cost_text      a line and its total
+--   cheaper_text      a line and its total
 --   text_of        an answer as text, without the line feed
 -- Assumes nothing.
 use Rattle.std.specs.Prelude.{ℕ, ◌/◌, ◌%◌, List, ◌++◌, codes, decimal}
@@ -10,7 +10,7 @@ use Rattle.shots.specs.Refusals.{number_of}
 use Rattle.lines.specs.declared.miss.Side.{Side}
 use Rattle.lines.specs.declared.miss.Side.TheVariants.{Late, Early, On}
 use Rattle.appraisal.specs.declared.answer.FailingPlace.{FailingPlace}
-use Rattle.appraisal.specs.declared.answer.LineCost.{LineCost}
+use Rattle.appraisal.specs.declared.answer.CheaperLine.{CheaperLine}
 use Rattle.appraisal.specs.declared.answer.Answer.{Answer}
 use Rattle.appraisal.specs.declared.answer.Answer.TheVariants.{Refused, Judged, Total, Cheapest, NotCheapest, Untested, Best, NoLine}
 
@@ -22,8 +22,8 @@ side_text On = codes "on"
 abbrev pub failing_text : FailingPlace → List ℕ
 failing_text p = decimal p.place ++ (codes "\t" ++ (signed_decimal p.rise ++ (codes "\t" ++ signed_decimal p.fall)))
 
-abbrev pub cost_text : LineCost → List ℕ
-cost_text l =
+abbrev pub cheaper_text : CheaperLine → List ℕ
+cheaper_text l =
     signed_decimal l.a ++ (codes "\t" ++ (signed_decimal l.b ++ (codes "\t" ++ (signed_decimal l.c ++ (codes "\t" ++ signed_decimal l.total)))))
 
 abbrev pub text_of : Answer → List ℕ
@@ -37,7 +37,7 @@ text_of (Total total a t) =
     ++ (codes "\t"
     ++ (decimal (t / 1000) ++ (codes "." ++ (decimal (t / 100 % 10) ++ (decimal (t / 10 % 10) ++ decimal (t % 10)))))))))
 text_of Cheapest = codes "cheapest"
-text_of (NotCheapest at by) = codes "not cheapest\t" ++ (failing_text at ++ (codes "\t" ++ cost_text by))
+text_of (NotCheapest at by) = codes "not cheapest\t" ++ (failing_text at ++ (codes "\t" ++ cheaper_text by))
 text_of Untested = codes "untested\tfewer than two speeds on the line"
-text_of (Best l) = codes "best\t" ++ cost_text l
+text_of (Best l) = codes "best\t" ++ cheaper_text l
 text_of NoLine = codes "no line\tfewer than two speeds"

@@ -22,12 +22,12 @@ use Rattle.law.specs.declared.kinds.Reply.TheVariants.{Done, Told, Mounted, Slip
 use Rattle.law.specs.declared.kinds.Moment.{Moment}
 use Rattle.law.specs.Lives.{Best as IsBest, Transcript}
 use Rattle.appraisal.specs.Planning.{plan_of}
-use Rattle.appraisal.specs.declared.answer.LineCost.{LineCost}
+use Rattle.appraisal.specs.declared.answer.CheaperLine.{CheaperLine}
 use Rattle.appraisal.specs.declared.answer.Answer.{Answer}
 use Rattle.appraisal.specs.declared.answer.Answer.TheVariants.{Refused, Judged, Total, Cheapest, NotCheapest, Untested, Best, NoLine}
 use Rattle.appraisal.specs.declared.finding.Found.{Found}
 
-pub record Costs (xs : List Shot) (l : Line) (by : LineCost) : Type 0 where
+pub record Costs (xs : List Shot) (l : Line) (by : CheaperLine) : Type 0 where
   pub numbers : Reads l by.a by.b by.c
   pub total : by.total ≡ total_of even l xs
 

@@ -1,6 +1,6 @@
 //! What the program answers, and how it is written.
 ghost use Rattle.std.specs.Prelude.{Some};
-ghost use Rattle.appraisal.specs.Answers.{text_of, side_text, failing_text, cost_text};
+ghost use Rattle.appraisal.specs.Answers.{text_of, side_text, failing_text, cheaper_text};
 
 use lines::Side;
 use shots::Refusal;
@@ -32,12 +32,12 @@ pub enum Answer {
     /// with its total.
     NotCheapest {
         at: FailingPlace,
-        by: LineCost,
+        by: CheaperLine,
     },
     /// Fewer than two shots of different speeds are on the line, so the test does not apply.
     Untested,
     /// The cheapest line of all, with its total.
-    Best(LineCost),
+    Best(CheaperLine),
     /// Fewer than two speeds are held, so there is no line to find.
     NoLine,
 }
@@ -77,18 +77,18 @@ impl fmt::Display for FailingPlace {
 
 /// A line, and T: its total over the held shots.
 #[derive(Clone, Copy, PartialEq, Eq, Debug)]
-pub struct LineCost {
+pub struct CheaperLine {
     pub a: i32,
     pub b: i32,
     pub c: i32,
     pub total: i64,
 }
 
-impl fmt::Display for LineCost {
-    ghost output = { λ s. Some (cost_text s) };
+impl fmt::Display for CheaperLine {
+    ghost output = { λ s. Some (cheaper_text s) };
 
     fn fmt<W: fmt::Write>(&self, f: &mut fmt::Formatter<W>) -> fmt::Result {
-        let LineCost { a, b, c, total } = *self;
+        let CheaperLine { a, b, c, total } = *self;
         write!(f, "{a}\t{b}\t{c}\t{total}")
     }
 }

@@ -3,7 +3,7 @@ ghost use Rattle.shots.specs.Prices.{even};
 ghost use Rattle.fit.specs.Testing.{First};
 ghost use Rattle.appraisal.specs.Deciding.{Verdict, Cheaper};
 
-use crate::answer::{Answer, FailingPlace, LineCost};
+use crate::answer::{Answer, CheaperLine, FailingPlace};
 use fit::{Outcome, fall_rate, has_two_speeds, rise_rate, test_line, total, turned_line};
 use lines::Line;
 use racks::Rack;
@@ -40,7 +40,7 @@ fn cheaper<R: Rack>(rack: &R, line: Line, place: usize) -> Answer
     };
     Answer::NotCheapest {
         at: FailingPlace { place, rise, fall },
-        by: LineCost {
+        by: CheaperLine {
             a: turned.a,
             b: turned.b,
             c: turned.c,

@@ -3,7 +3,7 @@ ghost use Rattle.std.specs.Prelude.{◌≡◌, ℕ, length, Decides, Option as M
 ghost use Rattle.appraisal.specs.Finding.{Tells, Finds, Settles};
 ghost use Rattle.appraisal.specs.Planning.{Planned};
 
-use crate::answer::{Answer, LineCost};
+use crate::answer::{Answer, CheaperLine};
 use crate::planning::plan;
 use fit::total;
 use law::{Call, Moment, Reply, Word};
@@ -85,7 +85,7 @@ fn in_force<R: Rack>(rack: &R, pass: Option<Line>) -> Answer
     ensures { Tells (R.Rack.held rack.now) pass result }
 {
     match pass {
-        Some(line) => Answer::Best(LineCost {
+        Some(line) => Answer::Best(CheaperLine {
             a: line.a,
             b: line.b,
             c: line.c,

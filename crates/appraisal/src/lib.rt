@@ -10,7 +10,7 @@ mod planning;
 mod reading;
 mod text;
 
-pub use answer::{Answer, FailingPlace, LineCost};
+pub use answer::{Answer, CheaperLine, FailingPlace};
 pub use deciding::verdict;
 pub use finding::{Finding, Found, find_best, settles};
 pub use judging::{close, judge};

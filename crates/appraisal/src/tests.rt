@@ -41,7 +41,7 @@ fn verdicts_name_a_cheaper_line(rt: HostRuntime) -> Result<(), Fail> {
                 rise: 5000,
                 fall: -1000,
             },
-            by: LineCost {
+            by: CheaperLine {
                 a: 75,
                 b: -1,
                 c: 2000,
@@ -81,7 +81,7 @@ fn a_life_finds_the_best_line(rt: HostRuntime) -> Result<(), Fail> {
     assert_eq!(rt; found.count, 11);
     assert_eq!(rt;
         found.answer,
-        Answer::Best(LineCost {
+        Answer::Best(CheaperLine {
             a: 75,
             b: -1,
             c: 2000,

@@ -1,10 +1,8 @@
-//! What does the card that is in the valve now cost over these test shots, and which line is the
-//! cheapest? The card and the shots come as text lines on standard input; each gets one answer. Then
-//! come the total and the verdict, each pivot of a fresh life of the shots, and the cheapest line.
+//! What does the card that is in the valve now cost over these test shots? The card and the shots
+//! come as text lines on standard input; each gets one answer, and the total and the verdict come last.
 #![tactic(auto)]
 
-use appraisal::{Answer, close, find_best, judge, read_card, settles, text_line, verdict};
-use law::{Call, Moment, Reply};
+use appraisal::{Answer, close, judge, read_card, text_line, verdict};
 use racks::RecordRack;
 use shots::{Refusal, Shot};
 use std::io::Read;
@@ -44,30 +42,5 @@ fn appraise(rt: &impl Print, input: &[u8]) -> anyhow::Result<()> {
     let answer = close(&rack, line);
     println!(rt; "{answer}")?;
     let answer = verdict(&rack, line);
-    println!(rt; "{answer}")?;
-    let mut records = [blank; 512];
-    let mut fresh = RecordRack::open(&mut records);
-    // 512 adds and 513 pivots at most
-    let mut calls = [Call::Issue; 1025];
-    let mut moments = [Moment {
-        call: Call::Issue,
-        reply: Reply::Done,
-        pass: None,
-    }; 1025];
-    let finding = find_best(&rack, &mut fresh, &mut calls, &mut moments);
-    let found = match finding.found {
-        Some(found) => found,
-        None => unreachable(),
-    };
-    for moment in &moments {
-        if moment.call == Call::Pivot {
-            let reply = moment.reply;
-            println!(rt; "{reply}")?;
-            if settles(reply) {
-                break;
-            }
-        }
-    }
-    let answer = found.answer;
     Ok(println!(rt; "{answer}")?)
 }

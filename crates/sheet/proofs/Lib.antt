@@ -1,3 +1,4 @@
 pub mod Turns
 pub mod Slipping
 pub mod Living
+pub mod Sample

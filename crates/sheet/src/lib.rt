@@ -5,11 +5,16 @@
 
 mod changing;
 mod inner;
+mod laws;
 mod life;
 mod pass;
 mod sheet;
 mod turning;
 
+pub use law::{Call, Moment, Reply, Stage, Word};
+pub use laws::{
+    each_moment_is_kept, every_turn_carries_a_life_on, one_line_is_at_hand, there_is_a_life,
+};
 pub use life::{Lived, live, perform};
 pub use pass::Pass;
 pub use sheet::Sheet;
