@@ -1,9 +1,9 @@
 -- The first place that fails has two rates and a turned line, and so the verdict stands.
-use Rattle.std.proofs.Common.{◌≡◌, ℕ, ◌<◌, ◌≤◌, List, length, get_or, ℤ, pos, nat_abs, Some, None, Option, sym, ap, ◌∙◌, subst, arith}
+use Rattle.std.proofs.Common.{◌≡◌, ℕ, List, get_or, ℤ, pos, nat_abs, Some, None, sym, ap, ◌∙◌, subst, arith}
 use Rattle.std.proofs.lemmas.Int.{ints}
 use Rattle.shots.specs.Prices.{even}
 use Rattle.shots.specs.declared.shot.Shot.{Shot}
-use Rattle.lines.specs.Lines.{any, On}
+use Rattle.lines.specs.Lines.{any}
 use Rattle.lines.specs.declared.line.Line.{Line}
 use Rattle.racks.specs.Racks.{Holds}
 use Rattle.theory.specs.Points.{Cheaper as IsCheaper}

@@ -1,6 +1,5 @@
 -- A field writes at most one number, so a text line writes at most one card.
 use Rattle.std.proofs.Common.{◌≡◌, ℕ, List, length, ℤ, Some, None, Option, sym, ap, ◌∙◌, subst, w32, SFits, to_z, of_z}
-use Rattle.std.specs.List.{slice_get}
 use Rattle.std.proofs.lemmas.Int.{to_z-of_z}
 use Rattle.fields.specs.Numbers.{signed_of}
 use Rattle.fields.specs.Fields.{parts}

@@ -1,5 +1,5 @@
 -- The sample life is the only transcript of its calls, so a life of these calls that the code makes is that one.
-use Rattle.std.proofs.Common.{◌≡◌, ℕ, ◌<◌, List, [], map, reverse, length, take, Some, None, Option, sym, refl, ap, ◌∙◌, subst, arith, take_all}
+use Rattle.std.proofs.Common.{◌≡◌, ℕ, List, [], map, reverse, length, take, Some, None, Option, ap, subst, arith, take_all}
 use Rattle.shots.specs.Prices.{even}
 use Rattle.shots.specs.declared.shot.Shot.{Shot}
 use Rattle.law.specs.declared.kinds.Call.{Call}

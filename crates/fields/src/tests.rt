@@ -37,7 +37,7 @@ fn tokens_hold_their_fields(rt: HostRuntime) {
     let line = b"set\t\t-12";
     assert!(rt;
         match token_at(line, 0, Digits::Six) {
-            Some(Token::Word(text)) => text == b"set",
+            Some(Token::Word(text)) => text == b"set".as_slice(),
             _ => false,
         }
     );
@@ -49,7 +49,7 @@ fn tokens_hold_their_fields(rt: HostRuntime) {
     );
     assert!(rt;
         match token_at(line, 2, Digits::Six) {
-            Some(Token::Number { text, value }) => text == b"-12" && value == -12,
+            Some(Token::Number { text, value }) => text == b"-12".as_slice() && value == -12,
             _ => false,
         }
     );

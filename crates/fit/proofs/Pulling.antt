@@ -1,12 +1,11 @@
 -- The pulls of shots about a shot z: their list as it grows, where each comes from, and that their prices are in range.
-use Rattle.std.proofs.Common.{◌≡◌, ℕ, zero, suc, ◌+◌, ◌-◌, ◌*◌, ◌<◌, ◌≤◌, ◌⊎◌, List, [], ◌∷◌, ◌++◌, map, length, get_or, take, set, ℤ, pos, ◌-ℤ◌, ◌*ℤ◌, ◌≤ℤ◌, ◌<ℤ◌, sym, refl, ap, ◌∙◌, subst, subst₂, inl, inr, mul-le-mul, arith, w32, to_z, of_z}
+use Rattle.std.proofs.Common.{◌≡◌, ℕ, zero, suc, ◌+◌, ◌-◌, ◌*◌, ◌<◌, ◌≤◌, List, [], ◌∷◌, ◌++◌, length, get_or, take, set, ℤ, pos, ◌*ℤ◌, ◌≤ℤ◌, sym, refl, ap, ◌∙◌, subst, subst₂, inl, inr, mul-le-mul, arith, w32, to_z, of_z}
 use Rattle.std.proofs.lemmas.List.{take_more, take_more_set}
 use Rattle.std.proofs.lemmas.Int.{ints}
 use Rattle.shots.specs.Prices.{Fair as FairPrices}
 use Rattle.shots.specs.declared.shot.Shot.{Shot}
 use Rattle.lines.specs.About.{Fits}
-use Rattle.lines.specs.Slopes.{Reduced}
-use Rattle.lines.specs.Through.{run_of, rise_of}
+use Rattle.lines.specs.Through.{run_of}
 use Rattle.lines.specs.declared.slope.Slope.{Slope}
 use Rattle.lines.proofs.Laying.{run_size, rise_size}
 use Rattle.lines.proofs.Order.{prod}

@@ -1,15 +1,14 @@
 -- Two speeds on a line, by places and as points.
-use Rattle.std.proofs.Common.{◌≡◌, ℕ, ◌<◌, ◌≤◌, Bool, true, false, List, length, ℤ, pos, ◌<ℤ◌, Decides, sym, ap, ◌∙◌, subst, ⊎_elim, arith}
+use Rattle.std.proofs.Common.{◌≡◌, ℕ, ◌<◌, Bool, List, ℤ, pos, Decides, sym, ap, ◌∙◌, subst, ⊎_elim, arith}
 use Rattle.std.proofs.lemmas.Int.{ints}
 use Rattle.std.proofs.lemmas.Bool.{cases_lt}
 use Rattle.shots.specs.declared.shot.Shot.{Shot}
 use Rattle.lines.specs.Lines.{any, On}
 use Rattle.lines.specs.declared.line.Line.{Line}
-use Rattle.theory.specs.Points.{Point, In, Spans, On as OnPoint}
+use Rattle.theory.specs.Points.{Point, Spans, On as OnPoint}
 use Rattle.fit.specs.Points.{point, points}
-use Rattle.fit.specs.Spanning.{Member, SpeedOn, OnOther, NoneOn, TwoSpeeds, SpansAll}
-use Rattle.fit.proofs.Held.{one_at}
-use Rattle.fit.proofs.Tests.{Source, source, in_image}
+use Rattle.fit.specs.Spanning.{Member, SpeedOn, OnOther, TwoSpeeds, SpansAll}
+use Rattle.fit.proofs.Tests.{source, in_image}
 
 module _ (l : Line) (xs : List Shot) where
   -- a shot of some speed on the line, and one of another

@@ -1,5 +1,5 @@
 -- The answer to a turn: the line at the balance slope, and what it says of a line on which the shot has a rate below 0.
-use Rattle.std.proofs.Common.{◌≡◌, ℕ, List, [], ◌∷◌, get_or, ℤ, pos, nat_abs, ◌≤ℤ◌, Some, None, Option, sym, refl, ap, ◌∙◌, subst, inl, inr, ⊎_elim, arith}
+use Rattle.std.proofs.Common.{◌≡◌, ℕ, List, [], ◌∷◌, get_or, ℤ, pos, nat_abs, ◌≤ℤ◌, Some, None, Option, refl, ap, ◌∙◌, subst, inl, inr, ⊎_elim, arith}
 use Rattle.std.proofs.lemmas.Int.{ints}
 use Rattle.shots.specs.Prices.{Fair as FairRule}
 use Rattle.shots.specs.declared.shot.Shot.{Shot}

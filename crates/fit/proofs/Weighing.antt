@@ -1,6 +1,6 @@
 -- Pulls weighed about a shot z are the points' pulls about its point: where the ones balance, the others do.
 --   Σ{key > b/a} p = Σ{key > t} under,   Σ{key ≤ b/a} q = Σ{key ≤ t} over,   where t is the slope b / a
-use Rattle.std.proofs.Common.{◌≡◌, ℕ, ◌<◌, ◌≤◌, Bool, true, false, cond, List, [], ◌∷◌, length, ℤ, pos, ◌*ℤ◌, ◌≤ℤ◌, ◌<ℤ◌, sum_by, sym, refl, ap, ◌∙◌, subst, inl, inr, ⊎_elim, arith}
+use Rattle.std.proofs.Common.{◌≡◌, ℕ, ◌≤◌, Bool, true, false, cond, List, [], ◌∷◌, length, ℤ, pos, ◌*ℤ◌, ◌≤ℤ◌, ◌<ℤ◌, sum_by, sym, refl, ap, ◌∙◌, subst, inl, inr, ⊎_elim, arith}
 use lib.Signed.{lt_z}
 use Rattle.std.proofs.lemmas.Int.{ints, by_lt_z}
 use Rattle.std.proofs.lemmas.List.Sums.{sum_by-cons}
@@ -12,12 +12,12 @@ use Rattle.lines.specs.Lines.{any, On}
 use Rattle.lines.specs.Sums.{sum_z}
 use Rattle.lines.specs.declared.line.Line.{Line}
 use Rattle.lines.specs.declared.slope.Slope.{Slope}
-use Rattle.lines.proofs.Order.{mul_le, mul_lt, mul_nn, cancel_le, cancel_lt, prod_lt, scale, weaken}
+use Rattle.lines.proofs.Order.{mul_le, mul_lt, cancel_le, cancel_lt, prod_lt, scale, weaken}
 use Rattle.lines.proofs.Ring.{lin, ring, flat, from, ◌&◌}
 use Rattle.theory.specs.Points.{Point, In}
 use Rattle.theory.specs.Turning.{run, num, Other, pull_p, pull_q, KeyBelow, p_above, q_up_to, Holds, Balanced}
 use Rattle.theory.proofs.Keys.{behind, p_zero, q_zero}
-use Rattle.balance.specs.Balances.{Usable, above, upto, holds, Point as BalancePoint, Answer}
+use Rattle.balance.specs.Balances.{Usable, above, upto, holds, Point as BalancePoint}
 use Rattle.balance.specs.Orders.{slope_le}
 use Rattle.balance.specs.OrderLaws.{le_to, lt_to}
 use Rattle.balance.specs.declared.pull.Pull.{Pull}

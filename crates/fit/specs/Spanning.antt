@@ -5,7 +5,7 @@
 --   TwoSpeeds   two shots of different speeds are on the line
 --   SpansAll    the same of the shots as points, whatever the prices
 -- Assumes nothing.
-use Rattle.std.specs.Prelude.{◌≡◌, ℕ, ◌<◌, Bool, true, List, length, ℤ, Decides, slice_index_or}
+use Rattle.std.specs.Prelude.{◌≡◌, ℕ, ◌<◌, Bool, List, length, ℤ, Decides, slice_index_or}
 use Rattle.shots.specs.declared.shot.Shot.{Shot}
 use Rattle.lines.specs.Lines.{any, On}
 use Rattle.lines.specs.declared.line.Line.{Line}

@@ -1,6 +1,6 @@
 -- Pivots come to an end: after n + 1 of them in a row, over n shots of two speeds, a line is in force.
 --   not in force after a pivots in a row   ⇒  a = 0, or a line is at hand and all but one of the a were moves; and moves are at most n - 1
-use Rattle.std.proofs.Common.{◌≡◌, ℕ, suc, ◌-◌, ◌<◌, ◌≤◌, ◌⊎◌, List, [], ◌∷◌, ◌++◌, length, ℤ, Some, None, Option, sym, refl, ◌∙◌, subst, inl, inr, arith}
+use Rattle.std.proofs.Common.{◌≡◌, ℕ, suc, ◌-◌, ◌<◌, ◌≤◌, ◌⊎◌, List, [], ◌∷◌, ◌++◌, length, ℤ, Some, None, Option, sym, refl, subst, inl, inr, arith}
 use Rattle.shots.specs.declared.shot.Shot.{Shot}
 use Rattle.lines.specs.declared.line.Line.{Line}
 use Rattle.fit.specs.First.{OneSpeed}

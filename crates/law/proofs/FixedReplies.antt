@@ -1,6 +1,6 @@
 -- An add, a strike, a mount, a slip and an issue have one answer each: it follows from the held shots and the line in
 -- force before the call; and after a change there is one line in force, or none.
-use Rattle.std.proofs.Common.{◌≡◌, ℕ, ◌<◌, ◌≤◌, cond, ltb, ◌⊎◌, List, ℤ, Some, None, Ok, Err, Option, sym, refl, ap, ◌∙◌, subst, inl, inr, arith}
+use Rattle.std.proofs.Common.{◌≡◌, ℕ, ◌<◌, ◌≤◌, cond, ltb, ◌⊎◌, List, ℤ, Some, None, Ok, Err, Option, sym, refl, ap, ◌∙◌, subst, inl, inr}
 use Rattle.std.proofs.lemmas.Bool.{lt-ltb, le-ltb}
 use Rattle.shots.specs.declared.shot.Shot.{Shot}
 use Rattle.shots.specs.declared.refusal.Refusal.{Refusal}
@@ -15,7 +15,7 @@ use Rattle.law.specs.declared.kinds.Reply.TheVariants.{Done, Told, Mounted, Slip
 use Rattle.slips.specs.Rows.{on_line}
 use Rattle.law.specs.Replies.{IfDone, AddReplies, StrikeReplies, MountReplies, SlipReplies, IssueReplies}
 use Rattle.law.specs.Lives.{Kept}
-use Rattle.law.proofs.Options.{clash, unsome, two, either}
+use Rattle.law.proofs.Options.{clash, unsome}
 use Rattle.law.proofs.FixedLines.{line_not_apart, offset_one}
 
 -- ---- the line in force after a call

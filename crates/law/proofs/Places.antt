@@ -1,6 +1,6 @@
 -- A move lowers the number of places with a cheaper line through them, and is made only where there are two of them.
 --   m the turned line about z, cheaper than l   ⇒  z is beaten under l and not under m, and each place beaten under m is beaten under l
-use Rattle.std.proofs.Common.{◌≡◌, ℕ, ◌<◌, ◌≤◌, List, [], ◌∷◌, length, pos, ◌*ℤ◌, ◌≤ℤ◌, ◌<ℤ◌, sym, refl, ap, ◌∙◌, subst, inl, inr, arith}
+use Rattle.std.proofs.Common.{◌≡◌, ℕ, ◌<◌, ◌≤◌, List, [], ◌∷◌, length, pos, ◌*ℤ◌, ◌≤ℤ◌, ◌<ℤ◌, sym, refl, ◌∙◌, subst, inl, inr, arith}
 use Rattle.std.proofs.lemmas.Int.{by_lt_z}
 use Rattle.lines.specs.Lines.{AnyLine}
 use Rattle.lines.proofs.Ring.{lin}

@@ -2,7 +2,7 @@
 --   Fits    the slope's terms are in the ranges of a line's A and B
 --   About   the answer: the line of that slope with the shot on it, or none where the slope does not fit
 -- Assumes nothing.
-use Rattle.std.specs.Prelude.{◌≡◌, ℤ, pos, negsuc, ◌≤ℤ◌, Some, None, Option}
+use Rattle.std.specs.Prelude.{◌≡◌, pos, negsuc, ◌≤ℤ◌, Some, None, Option}
 use Rattle.shots.specs.declared.shot.Shot.{Shot}
 use Rattle.lines.specs.Lines.{On}
 use Rattle.lines.specs.declared.line.Line.{Line}

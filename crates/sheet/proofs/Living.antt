@@ -1,5 +1,5 @@
 -- A whole life that is written down in the front of a row: its transcript, what is beyond it, and what the rack holds at last.
-use Rattle.std.proofs.Common.{◌≡◌, ℕ, List, [], ◌++◌, map, reverse, length, take, drop, ℤ, sym, ap, ◌∙◌, subst, subst₂, append-nil}
+use Rattle.std.proofs.Common.{◌≡◌, ℕ, List, [], ◌++◌, map, reverse, length, take, drop, ℤ, sym, ap, ◌∙◌, subst, append-nil}
 use Rattle.std.proofs.lemmas.List.{length-map, take_at, drop_at}
 use Rattle.shots.specs.declared.shot.Shot.{Shot}
 use Rattle.law.specs.declared.kinds.Call.{Call}

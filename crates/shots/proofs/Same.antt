@@ -1,5 +1,5 @@
 -- Two shots with the same four numbers are the same shot: a range has one proof at most.
-use Rattle.std.proofs.Common.{◌≡◌, ℕ, ◌≤◌, ℤ, pos, negsuc, ◌≤ℤ◌}
+use Rattle.std.proofs.Common.{◌≡◌, ◌≤◌, ℤ, pos, negsuc, ◌≤ℤ◌}
 use mathlib.Core.Path.{to_path_p}
 use native.Mathlib.Bridge.{le_prop}
 use lib.Dec.{T_prop}

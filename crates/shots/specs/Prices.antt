@@ -4,7 +4,7 @@
 --   listed     the stuff rule: what the table of sixteen pairs has, and 1 and 1 for what is no stuff
 --   SetPrice   the answer to a try to set one stuff's prices, and the table after it
 -- Assumes nothing.
-use Rattle.std.specs.Prelude.{◌≡◌, ℕ, ◌≤◌, false, cond, ◌&&◌, List, set, ℤ, Some, None, Ok, Err, Option, Result, slice_index_or, slice_set, unsigned_abs}
+use Rattle.std.specs.Prelude.{◌≡◌, ℕ, ◌≤◌, false, cond, ◌&&◌, List, ℤ, Some, None, Ok, Err, Option, Result, slice_index_or, slice_set, unsigned_abs}
 use Rattle.shots.specs.Ranges.{is_stuff, is_price}
 use Rattle.shots.specs.declared.refusal.Refusal.{Refusal}
 use Rattle.shots.specs.declared.refusal.Refusal.TheVariants.{Stuff, Price}

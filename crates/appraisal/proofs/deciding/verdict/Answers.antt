@@ -1,5 +1,5 @@
 -- `verdict`: the test decides for a line with two speeds on it.
-use Rattle.std.proofs.Common.{◌≡◌, true, rules}
+use Rattle.std.proofs.Common.{◌≡◌, true}
 use Rattle.shots.specs.Prices.{even}
 use Rattle.appraisal.proofs.Verdicts.{cheaper_verdict}
 use Rattle.appraisal.proofs.deciding.verdict.Goals as goal

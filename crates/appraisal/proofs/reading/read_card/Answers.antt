@@ -1,4 +1,4 @@
-use Rattle.std.proofs.Common.{refl, w32, SFits, rules}
+use Rattle.std.proofs.Common.{w32, SFits, rules}
 use Rattle.appraisal.proofs.Writing.{writes_back, card_read}
 use Rattle.appraisal.proofs.reading.read_card.Goals as goal
 

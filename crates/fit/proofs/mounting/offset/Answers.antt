@@ -1,5 +1,5 @@
 -- `offset`: a slope out of range, no shot, or the balanced offset, which is the lowest of the cheapest.
-use Rattle.std.proofs.Common.{sym, refl, ◌∙◌, inr, w32, SFits, rules}
+use Rattle.std.proofs.Common.{sym, refl, inr, w32, SFits, rules}
 use Rattle.std.proofs.lemmas.Int.{to_z-of_z}
 use Rattle.racks.proofs.Emptiness.{some_held}
 use Rattle.fit.proofs.Crossing.{is_slope, same_offset}

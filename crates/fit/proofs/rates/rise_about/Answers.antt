@@ -1,5 +1,5 @@
 -- `rise_about`: the sum so far is that of the shots so far, and each adds little enough for the sum to fit.
-use Rattle.std.proofs.Common.{◌≡◌, ◌≤◌, length, refl, ◌∙◌, arith}
+use Rattle.std.proofs.Common.{◌≤◌, length, refl, ◌∙◌, arith}
 use Rattle.lines.specs.Lines.{any}
 use Rattle.theory.specs.Rates.{rise_part}
 use Rattle.fit.specs.Points.{point}

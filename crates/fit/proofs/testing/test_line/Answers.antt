@@ -1,5 +1,5 @@
 -- `test_line`: the first shot that fails, or none, and what that says of all lines.
-use Rattle.std.proofs.Common.{◌<◌, ◌≤◌, length, arith}
+use Rattle.std.proofs.Common.{◌≤◌, length, arith}
 use Rattle.fit.specs.Testing.{Fails, First}
 use Rattle.fit.proofs.Held.{place_more}
 use Rattle.fit.proofs.Tests.{not_both, none_fails, passes_best, fails_worse}

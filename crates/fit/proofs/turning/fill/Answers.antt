@@ -1,5 +1,5 @@
 -- `fill`: one shot more, with its pull or without one.
-use Rattle.std.proofs.Common.{◌≡◌, ◌<◌, ◌≤◌, length, take, subst, arith, length-set}
+use Rattle.std.proofs.Common.{◌<◌, ◌≤◌, length, take, subst, arith, length-set}
 use Rattle.std.proofs.lemmas.List.{take_all}
 use Rattle.fit.specs.Turning.{Pulls}
 use Rattle.fit.proofs.Pulling.{pulls_same, pulls_more, pull_asked}

@@ -1,5 +1,5 @@
 -- `turn_about`: the slope at which the pulls balance is the slope at which the points' pulls do.
-use Rattle.std.proofs.Common.{take, arith, length-take}
+use Rattle.std.proofs.Common.{arith, length-take}
 use Rattle.fit.proofs.Swings.{turned_about}
 use Rattle.fit.proofs.Weighing.{unbalanced}
 use Rattle.fit.proofs.turning.turn_about.Goals as goal

@@ -1,4 +1,4 @@
-use Rattle.std.proofs.Common.{ℕ, ◌≤◌, arith}
+use Rattle.std.proofs.Common.{◌≤◌, arith}
 use Rattle.std.proofs.lemmas.Int.{ints, to_z-of_z}
 use Rattle.shots.proofs.Tables.{set_keeps}
 use Rattle.shots.proofs.stuff_prices.StuffPrices.set.Goals as goal
