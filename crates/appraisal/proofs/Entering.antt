@@ -4,7 +4,7 @@ use Rattle.shots.specs.declared.shot.Shot.{Shot}
 use Rattle.lines.specs.declared.line.Line.{Line}
 use Rattle.appraisal.specs.Judging.{Stands, Entered, Judges}
 use Rattle.appraisal.specs.declared.answer.Answer.{Answer}
-use Rattle.appraisal.specs.declared.answer.Answer.TheVariants.{Refused, Judged, Total, Cheapest, NotCheapest, Untested, Best, NoLine}
+use Rattle.appraisal.specs.declared.answer.Answer.TheVariants.{Refused, Judged, Total, Cheapest, NotCheapest, Untested}
 
 pub entered_judges : (cap : ℕ) (xs : List Shot) (l : Line) (text : List ℕ) (number k : ℕ) (r : Answer) (ys : List Shot) → k ≡ length xs → Entered cap xs text ys → Stands ys l k r → Judges cap xs l text number r ys
 entered_judges cap xs l text number k (Refused e n) ys p q s = absurd s
@@ -13,5 +13,3 @@ entered_judges cap xs l text number k (Total t a d) ys p q s = absurd s
 entered_judges cap xs l text number k Cheapest ys p q s = absurd s
 entered_judges cap xs l text number k (NotCheapest at by) ys p q s = absurd s
 entered_judges cap xs l text number k Untested ys p q s = absurd s
-entered_judges cap xs l text number k (Best m) ys p q s = absurd s
-entered_judges cap xs l text number k NoLine ys p q s = absurd s

@@ -11,8 +11,8 @@ use Rattle.law.specs.Lives.{in_force_by, Best as IsBest, Transcript}
 use Rattle.sheet.specs.Living.{Made as LifeMade, Lives}
 use Rattle.appraisal.specs.Planning.{plan_of, Planned}
 use Rattle.appraisal.specs.Finding.{Tells, BestOf, Made, Finds}
-use Rattle.appraisal.specs.declared.answer.Answer.{Answer}
-use Rattle.appraisal.specs.declared.answer.Answer.TheVariants.{Refused, Judged, Total, Cheapest, NotCheapest, Untested, Best, NoLine}
+use Rattle.appraisal.specs.declared.finding.BestLine.{BestLine}
+use Rattle.appraisal.specs.declared.finding.BestLine.TheVariants.{Best, NoLine}
 use Rattle.appraisal.specs.declared.finding.Found.{Found}
 use Rattle.appraisal.proofs.Fresh.{last_in_force, ended}
 use Rattle.appraisal.proofs.Plans.{length_plan}
@@ -23,18 +23,12 @@ as_planned xs fresh ys calls planned before after cap k o p made lives is =
     let same : take k planned ≡ plan_of xs = ap (take k) made.2 ∙ take_at (plan_of xs) (drop k calls) k (sym made.0) in
     subst₂ (λ (cs : List Call) (q : Option ℕ). Lives even cap fresh cs before q after ys) same is lives
 
-tells_best : (xs : List Shot) (o : Option Line) (a : Answer) → Tells xs o a → ((l : Line) → o ≡ Some l → IsBest even xs l) → (o ≡ None → OneSpeed xs) → BestOf xs a
-tells_best xs o (Refused e n) t best none = absurd t
-tells_best xs o (Judged place side miss) t best none = absurd t
-tells_best xs o (Total total a q) t best none = absurd t
-tells_best xs o Cheapest t best none = absurd t
-tells_best xs o (NotCheapest at by) t best none = absurd t
-tells_best xs o Untested t best none = absurd t
+tells_best : (xs : List Shot) (o : Option Line) (a : BestLine) → Tells xs o a → ((l : Line) → o ≡ Some l → IsBest even xs l) → (o ≡ None → OneSpeed xs) → BestOf xs a
 tells_best xs o (Best by) t best none = (t.0, best t.0 t.1, t.2)
 tells_best xs o NoLine t best none = none t
 
 module _ {cap n : ℕ} {xs ys : List Shot} {before after : List Moment} (is : n ≡ length (plan_of xs)) (made : LifeMade even cap (plan_of xs) before after ys) where
-  pub found : (d : Moment) (a : Answer) → length (plan_of xs) ≤ length after → Tells xs (get_or after (n - 1) d).pass a → Made cap xs before after ys (record { count = n; answer = a })
+  pub found : (d : Moment) (a : BestLine) → length (plan_of xs) ≤ length after → Tells xs (get_or after (n - 1) d).pass a → Made cap xs before after ys (record { count = n; best = a })
   found d a long told =
       let some = length_plan xs in
       let all : n - 1 + 1 ≡ length (plan_of xs) = omega arith in

@@ -16,7 +16,7 @@ use Rattle.fit.specs.Turning.{Descends}
 use Rattle.fit.proofs.Held.{one_at}
 use Rattle.appraisal.specs.Deciding.{Shown, Cheaper, Verdict}
 use Rattle.appraisal.specs.declared.answer.Answer.{Answer}
-use Rattle.appraisal.specs.declared.answer.Answer.TheVariants.{Refused, Judged, Total, Cheapest, NotCheapest, Untested, Best, NoLine}
+use Rattle.appraisal.specs.declared.answer.Answer.TheVariants.{Refused, Judged, Total, Cheapest, NotCheapest, Untested}
 
 module _ (l : Line) (xs : List Shot) (k : ℕ) (p : ℤ) (e : p ≡ pos k) (f : First even l xs k) where
   holds : Holds xs p
@@ -52,5 +52,3 @@ cheaper_verdict xs l k (Total t' a q) t c = c
 cheaper_verdict xs l k Cheapest t c = absurd c
 cheaper_verdict xs l k (NotCheapest at by) t h = (t, subst (λ i. Shown xs l i at by) (sym h.0) h.1)
 cheaper_verdict xs l k Untested t c = absurd c
-cheaper_verdict xs l k (Best m) t c = absurd c
-cheaper_verdict xs l k NoLine t c = absurd c

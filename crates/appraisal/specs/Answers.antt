@@ -1,7 +1,7 @@
 -- How an answer is written: its parts, parted by tabs.
 --   side_text      a side as a word
 --   failing_text   a place and its two rates
---   cheaper_text      a line and its total
+--   cheaper_text   a line and its total
 --   text_of        an answer as text, without the line feed
 -- Assumes nothing.
 use Rattle.std.specs.Prelude.{ℕ, ◌/◌, ◌%◌, List, ◌++◌, codes, decimal}
@@ -12,7 +12,7 @@ use Rattle.lines.specs.declared.miss.Side.TheVariants.{Late, Early, On}
 use Rattle.appraisal.specs.declared.answer.FailingPlace.{FailingPlace}
 use Rattle.appraisal.specs.declared.answer.CheaperLine.{CheaperLine}
 use Rattle.appraisal.specs.declared.answer.Answer.{Answer}
-use Rattle.appraisal.specs.declared.answer.Answer.TheVariants.{Refused, Judged, Total, Cheapest, NotCheapest, Untested, Best, NoLine}
+use Rattle.appraisal.specs.declared.answer.Answer.TheVariants.{Refused, Judged, Total, Cheapest, NotCheapest, Untested}
 
 abbrev pub side_text : Side → List ℕ
 side_text Late = codes "late"
@@ -39,5 +39,3 @@ text_of (Total total a t) =
 text_of Cheapest = codes "cheapest"
 text_of (NotCheapest at by) = codes "not cheapest\t" ++ (failing_text at ++ (codes "\t" ++ cheaper_text by))
 text_of Untested = codes "untested\tfewer than two speeds on the line"
-text_of (Best l) = codes "best\t" ++ cheaper_text l
-text_of NoLine = codes "no line\tfewer than two speeds"

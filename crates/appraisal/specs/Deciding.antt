@@ -17,7 +17,7 @@ use Rattle.fit.specs.Totals.{total_of}
 use Rattle.appraisal.specs.declared.answer.FailingPlace.{FailingPlace}
 use Rattle.appraisal.specs.declared.answer.CheaperLine.{CheaperLine}
 use Rattle.appraisal.specs.declared.answer.Answer.{Answer}
-use Rattle.appraisal.specs.declared.answer.Answer.TheVariants.{Refused, Judged, Total, Cheapest, NotCheapest, Untested, Best, NoLine}
+use Rattle.appraisal.specs.declared.answer.Answer.TheVariants.{Refused, Judged, Total, Cheapest, NotCheapest, Untested}
 
 pub record Shown (xs : List Shot) (l : Line) (k : ℕ) (at : FailingPlace) (by : CheaperLine) : Type 0 where
   pub first : First even l xs k
@@ -36,8 +36,6 @@ Cheaper xs l k (Total t a q) = ⊥
 Cheaper xs l k Cheapest = ⊥
 Cheaper xs l k (NotCheapest at by) = (at.place ≡ k) × Shown xs l k at by
 Cheaper xs l k Untested = ⊥
-Cheaper xs l k (Best m) = ⊥
-Cheaper xs l k NoLine = ⊥
 
 abbrev pub Verdict : List Shot → Line → Answer → Type 0
 Verdict xs l (Refused e n) = ⊥
@@ -46,5 +44,3 @@ Verdict xs l (Total t a q) = ⊥
 Verdict xs l Cheapest = TwoSpeeds l xs × IsCheapest (any l) (points even xs)
 Verdict xs l (NotCheapest at by) = TwoSpeeds l xs × Shown xs l at.place at by
 Verdict xs l Untested = TwoSpeeds l xs → ⊥
-Verdict xs l (Best m) = ⊥
-Verdict xs l NoLine = ⊥

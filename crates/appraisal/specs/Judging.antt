@@ -18,7 +18,7 @@ use Rattle.racks.specs.Racks.{add_fault}
 use Rattle.fit.specs.Totals.{total_of}
 use Rattle.appraisal.specs.Readings.{ShotText}
 use Rattle.appraisal.specs.declared.answer.Answer.{Answer}
-use Rattle.appraisal.specs.declared.answer.Answer.TheVariants.{Refused, Judged, Total, Cheapest, NotCheapest, Untested, Best, NoLine}
+use Rattle.appraisal.specs.declared.answer.Answer.TheVariants.{Refused, Judged, Total, Cheapest, NotCheapest, Untested}
 
 abbrev pub Stands : List Shot → Line → ℕ → Answer → Type 0
 Stands xs l k (Refused e n) = ⊥
@@ -28,8 +28,6 @@ Stands xs l k (Total t a q) = ⊥
 Stands xs l k Cheapest = ⊥
 Stands xs l k (NotCheapest at by) = ⊥
 Stands xs l k Untested = ⊥
-Stands xs l k (Best m) = ⊥
-Stands xs l k NoLine = ⊥
 
 pub record Entered (cap : ℕ) (xs : List Shot) (text : List ℕ) (ys : List Shot) : Type 0 where
   pub s : ℤ
@@ -60,8 +58,6 @@ Judges cap xs l text number (Total t a q) ys = ⊥
 Judges cap xs l text number Cheapest ys = ⊥
 Judges cap xs l text number (NotCheapest at by) ys = ⊥
 Judges cap xs l text number Untested ys = ⊥
-Judges cap xs l text number (Best m) ys = ⊥
-Judges cap xs l text number NoLine ys = ⊥
 
 abbrev pub Closes : List Shot → Line → Answer → Type 0
 Closes xs l (Refused e n) = ⊥
@@ -71,5 +67,3 @@ Closes xs l (Total t a q) =
 Closes xs l Cheapest = ⊥
 Closes xs l (NotCheapest at by) = ⊥
 Closes xs l Untested = ⊥
-Closes xs l (Best m) = ⊥
-Closes xs l NoLine = ⊥

@@ -36,10 +36,6 @@ pub enum Answer {
     },
     /// Fewer than two shots of different speeds are on the line, so the test does not apply.
     Untested,
-    /// The cheapest line of all, with its total.
-    Best(CheaperLine),
-    /// Fewer than two speeds are held, so there is no line to find.
-    NoLine,
 }
 
 // A side, as it is written in an answer.
@@ -75,7 +71,7 @@ impl fmt::Display for FailingPlace {
     }
 }
 
-/// A line, and T: its total over the held shots.
+/// A cheaper line and its total.
 #[derive(Clone, Copy, PartialEq, Eq, Debug)]
 pub struct CheaperLine {
     pub a: i32,
@@ -123,8 +119,6 @@ impl fmt::Display for Answer {
             Answer::Cheapest => f.write_str("cheapest"),
             Answer::NotCheapest { at, by } => write!(f, "not cheapest\t{at}\t{by}"),
             Answer::Untested => f.write_str("untested\tfewer than two speeds on the line"),
-            Answer::Best(line) => write!(f, "best\t{line}"),
-            Answer::NoLine => f.write_str("no line\tfewer than two speeds"),
         }
     }
 }

@@ -1,9 +1,9 @@
 //! The cheapest line over the held shots, found by a fresh life of them, at even prices.
-ghost use Rattle.std.specs.Prelude.{◌≡◌, ℕ, length, Decides, Option as Maybe};
-ghost use Rattle.appraisal.specs.Finding.{Tells, Finds, Settles};
+ghost use Rattle.std.specs.Prelude.{◌≡◌, ℕ, length, Decides, Some, Option as Maybe};
+ghost use Rattle.appraisal.specs.Finding.{best_text, Tells, Finds, Settles};
 ghost use Rattle.appraisal.specs.Planning.{Planned};
 
-use crate::answer::{Answer, CheaperLine};
+use crate::answer::CheaperLine;
 use crate::planning::plan;
 use fit::total;
 use law::{Call, Moment, Reply, Word};
@@ -11,6 +11,27 @@ use lines::Line;
 use racks::Rack;
 use sheet::live;
 use shots::EvenPrices;
+use std::fmt;
+
+/// The cheapest line there is.
+#[derive(Clone, Copy, PartialEq, Eq, Debug)]
+pub enum BestLine {
+    /// The line, with its total.
+    Best(CheaperLine),
+    /// Fewer than two speeds are held, so there is no line to find.
+    NoLine,
+}
+
+impl fmt::Display for BestLine {
+    ghost output = { λ best. Some (best_text best) };
+
+    fn fmt<W: fmt::Write>(&self, f: &mut fmt::Formatter<W>) -> fmt::Result {
+        match *self {
+            BestLine::Best(line) => write!(f, "best\t{line}"),
+            BestLine::NoLine => f.write_str("no line\tfewer than two speeds"),
+        }
+    }
+}
 
 /// What came of a life.
 #[derive(Clone, Copy)]
@@ -18,7 +39,7 @@ pub struct Found {
     /// How many moments were written.
     pub count: usize,
     /// The line in force at last, with its total, or that there is none.
-    pub answer: Answer,
+    pub best: BestLine,
 }
 
 /// A rack after a life on it.
@@ -57,7 +78,7 @@ pub fn find_best<R: Rack, F: Rack>(
             Finding {
                 found: Some(Found {
                     count,
-                    answer: in_force(rack, moments[last].pass),
+                    best: in_force(rack, moments[last].pass),
                 }),
                 rack: lived.rack,
             }
@@ -80,17 +101,17 @@ pub fn settles(reply: Reply) -> bool
     }
 }
 
-// The answer that tells a line in force, or that none is.
-fn in_force<R: Rack>(rack: &R, pass: Option<Line>) -> Answer
+// A line in force with its total, or that none is.
+fn in_force<R: Rack>(rack: &R, pass: Option<Line>) -> BestLine
     ensures { Tells (R.Rack.held rack.now) pass result }
 {
     match pass {
-        Some(line) => Answer::Best(CheaperLine {
+        Some(line) => BestLine::Best(CheaperLine {
             a: line.a,
             b: line.b,
             c: line.c,
             total: total(rack, &EvenPrices, line),
         }),
-        None => Answer::NoLine,
+        None => BestLine::NoLine,
     }
 }

@@ -12,7 +12,7 @@ mod text;
 
 pub use answer::{Answer, CheaperLine, FailingPlace};
 pub use deciding::verdict;
-pub use finding::{Finding, Found, find_best, settles};
+pub use finding::{BestLine, Finding, Found, find_best, settles};
 pub use judging::{close, judge};
 pub use planning::plan;
 pub use reading::{Entry, read_card, read_entry};

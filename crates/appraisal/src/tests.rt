@@ -80,8 +80,8 @@ fn a_life_finds_the_best_line(rt: HostRuntime) -> Result<(), Fail> {
     };
     assert_eq!(rt; found.count, 11);
     assert_eq!(rt;
-        found.answer,
-        Answer::Best(CheaperLine {
+        found.best,
+        BestLine::Best(CheaperLine {
             a: 75,
             b: -1,
             c: 2000,
@@ -108,7 +108,7 @@ fn one_speed_has_no_line(rt: HostRuntime) -> Result<(), Fail> {
     let Some(found) = find_best(&rack, &mut fresh, &mut calls, &mut moments).found else {
         return Err(Fail::new("there is room for 5 moments"));
     };
-    assert_eq!(rt; found.answer, Answer::NoLine);
+    assert_eq!(rt; found.best, BestLine::NoLine);
     assert_eq!(rt; moments[2].reply, Reply::Refused(Refusal::OneSpeed));
     Ok(())
 }

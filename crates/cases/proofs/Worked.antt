@@ -1,7 +1,7 @@
 -- The worked examples: each is computed from the definitions.
 use Rattle.std.proofs.Common.{refl}
 use Rattle.cases.specs.Examples.{at2000, one_speed}
-use Rattle.cases.specs.Table.{WorkedExamples}
+use Rattle.cases.specs.Table.{WorkedCalls, WorkedExamples}
 use Rattle.cases.proofs.Adding.{adds}
 use Rattle.cases.proofs.FiveShots.{costs, fall_1000, fall_2000, fall_3000, two, not_best, lays, moves, proves, keeps, unsettles, moves_to_level}
 use Rattle.cases.proofs.OneSpeed.{refuses, lays_level, proves_level, mounts_at_0, mounts_at_10}
@@ -14,6 +14,10 @@ worked = record {
   fall_at_3000_is_0 = fall_3000;
   level_line_has_two_speeds = two;
   level_line_is_not_cheapest = not_best;
+}
+
+pub worked_calls : WorkedCalls
+worked_calls = record {
   first_pivot_lays = lays;
   second_pivot_moves = moves;
   third_pivot_proves = proves;

@@ -1,5 +1,6 @@
 -- The worked examples, each named for what it shows; prices are even unless a name says otherwise.
---   WorkedExamples   all of them
+--   WorkedExamples   three shots in one line: the two outermost look fine, and the one between them shows that a cheaper line exists
+--   WorkedCalls      what the calls on a sheet of a few shots do and answer
 -- Assumes nothing.
 use Rattle.std.specs.Prelude.{◌≡◌, pos, negsuc}
 use Rattle.shots.specs.Prices.{even}
@@ -18,13 +19,14 @@ use Rattle.law.specs.Turns.{Turn}
 use Rattle.cases.specs.Examples.{at1000, at2000, at3000, five_shots, without2000, without500, one_speed, two_speeds, level, steep, gentle, late_thrice, sheet_at, sheet, add, told}
 
 pub record WorkedExamples : Type 0 where
-  -- three shots in one line: the two outermost look fine, and the one between them shows that a cheaper line exists
   pub level_line_costs_40 : total_of even level five_shots ≡ pos 40
   pub fall_at_1000_is_0 : fall_at even level five_shots at1000 ≡ pos 0
   pub fall_at_2000_is_below_0 : fall_at even level five_shots at2000 ≡ negsuc 999
   pub fall_at_3000_is_0 : fall_at even level five_shots at3000 ≡ pos 0
   pub level_line_has_two_speeds : Spans (any level) (points even five_shots)
   pub level_line_is_not_cheapest : Cheapest (any level) (points even five_shots) → ⊥
+
+pub record WorkedCalls : Type 0 where
   -- three pivots bring the five shots' line into force
   pub first_pivot_lays : Turn Pivot (told Laid steep (pos 5000)) (sheet five_shots Bare) (sheet five_shots (Trying steep))
   pub second_pivot_moves : Turn Pivot (told Moved gentle (pos 2000)) (sheet five_shots (Trying steep)) (sheet five_shots (Trying gentle))

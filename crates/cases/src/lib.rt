@@ -10,7 +10,7 @@ mod table;
 pub use concrete::sample_life;
 pub use own_calls::by_hand;
 pub use sample::there_is_a_life;
-pub use table::worked_examples;
+pub use table::{worked_calls, worked_examples};
 
 #[cfg(test)]
 mod tests;

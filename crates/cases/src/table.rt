@@ -1,9 +1,16 @@
 //! The table.
-ghost use Rattle.cases.specs.Table.{WorkedExamples};
+ghost use Rattle.cases.specs.Table.{WorkedCalls, WorkedExamples};
 
 /// The worked examples hold of the definitions that all contracts cite.
 pub fn worked_examples() -> u8
     ensures { WorkedExamples }
+{
+    0
+}
+
+/// What the calls on a sheet of a few shots do and answer.
+pub fn worked_calls() -> u8
+    ensures { WorkedCalls }
 {
     0
 }

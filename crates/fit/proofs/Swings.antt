@@ -10,7 +10,7 @@ use Rattle.lines.specs.declared.slope.Slope.{Slope}
 use Rattle.racks.specs.Racks.{Holds}
 use Rattle.theory.specs.Points.{Point, In, Cheaper}
 use Rattle.theory.specs.Rates.{rise_part, fall_part, rise_of, fall_of, Failing}
-use Rattle.theory.specs.Turning.{run, Other, Turned, LowestThrough}
+use Rattle.theory.specs.Turning.{run, Other, Turned}
 use Rattle.theory.proofs.Descent.{turn_cheaper}
 use Rattle.theory.proofs.Members.{sum_in_nn}
 use Rattle.theory.proofs.Turning.{turn_lowest_cheapest, rise_term_nn, fall_term_nn}
@@ -18,7 +18,7 @@ use Rattle.balance.specs.Balances.{Point as BalancePoint}
 use Rattle.balance.specs.Orders.{slope_le}
 use Rattle.balance.specs.declared.pull.Pull.{Pull}
 use Rattle.fit.specs.Points.{point, points}
-use Rattle.fit.specs.Turning.{Pulls, TurnedAbout, TurnedAt, Descends}
+use Rattle.fit.specs.Turning.{Pulls, TurnedAbout, TurnedAt, Descends, LowestAt}
 use Rattle.fit.proofs.Held.{one_at, held_below}
 use Rattle.fit.proofs.Mounted.{weighty}
 use Rattle.fit.proofs.Weighing.{slope_fits, balanced, same_run}
@@ -50,12 +50,23 @@ no_fail tariff z xs l h on f =
     ⊎_elim (λ r. omega (arith, ints, rise, r)) (λ r. omega (arith, ints, fall, r)) f
 
 -- ---- the turned line against the line before
-descends_about : (tariff : ℤ → ℕ × ℕ) → FairRule tariff → (xs : List Shot) (z : Shot) (r : Option Line) → TurnedAbout tariff xs z r → (l : Line) → On l z → Failing (any l) (points tariff xs) (point tariff z) → (m : Line) × (r ≡ Some m) × Cheaper (any m) (any l) (points tariff xs) × Turned (points tariff xs) (point tariff z) (any m) × LowestThrough (point tariff z) (any m) (points tariff xs)
-descends_about tariff fair xs z (Some m) b l on f =
-    let turned = turn_lowest_cheapest (any m) (points tariff xs) (point tariff z) b in
-    (m, refl, turn_cheaper (any l) (any m) (points tariff xs) (point tariff z) l.ahead on f b, turned, turned.lowest (weighty tariff (pos 1) (pos 0) fair xs))
-descends_about tariff fair xs z None s l on f = absurd (no_fail tariff z xs l s on f)
+descends_about : (tariff : ℤ → ℕ × ℕ) (xs : List Shot) (z : Shot) (r : Option Line) → TurnedAbout tariff xs z r → (l : Line) → On l z → Failing (any l) (points tariff xs) (point tariff z) → (m : Line) × (r ≡ Some m) × Cheaper (any m) (any l) (points tariff xs) × Turned (points tariff xs) (point tariff z) (any m)
+descends_about tariff xs z (Some m) b l on f = (
+  m,
+  refl,
+  turn_cheaper (any l) (any m) (points tariff xs) (point tariff z) l.ahead on f b,
+  turn_lowest_cheapest (any m) (points tariff xs) (point tariff z) b,
+)
+descends_about tariff xs z None s l on f = absurd (no_fail tariff z xs l s on f)
 
-pub descends : (tariff : ℤ → ℕ × ℕ) → FairRule tariff → (xs : List Shot) (p : ℤ) (z : Shot) → Holds xs p → z ≡ get_or xs (nat_abs p) z → (r : Option Line) → TurnedAbout tariff xs z r → Descends tariff xs p r
-descends tariff fair xs p z h e r b y _ f =
-    descends_about tariff fair xs y r (subst (λ t. TurnedAbout tariff xs t r) (one_at xs (nat_abs p) z y (held_below xs p h) e f) b)
+-- ---- what is said of the shot that was read holds of each shot at that place
+module _ (tariff : ℤ → ℕ × ℕ) (xs : List Shot) (p : ℤ) (z : Shot) (h : Holds xs p) (e : z ≡ get_or xs (nat_abs p) z) (r : Option Line) (b : TurnedAbout tariff xs z r) where
+  about : (y : Shot) → y ≡ get_or xs (nat_abs p) y → TurnedAbout tariff xs y r
+  about y f = subst (λ t. TurnedAbout tariff xs t r) (one_at xs (nat_abs p) z y (held_below xs p h) e f) b
+
+  pub descends : Descends tariff xs p r
+  descends y _ f = descends_about tariff xs y r (about y f)
+
+  pub lowest_at : FairRule tariff → LowestAt tariff xs p r
+  lowest_at fair y _ f m is =
+      (turn_lowest_cheapest (any m) (points tariff xs) (point tariff y) (subst (TurnedAbout tariff xs y) is (about y f))).lowest (weighty tariff (pos 1) (pos 0) fair xs)

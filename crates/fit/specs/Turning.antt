@@ -6,6 +6,7 @@
 --   TurnedAbout   the answer: the line through z with the balance slope, or none where all shots have the speed of z
 --   TurnedAt      the same about the shot at a place; none too where no shot is held there
 --   Descends      if the shot at that place is on a line and has a rate below 0, then the answer is a line, it is cheaper, and it is the lowest of the cheapest lines through the shot
+--   LowestAt      each line through the shot at that place of a lower slope than the answer is dearer
 -- Assumes nothing.
 use Rattle.std.specs.Prelude.{◌≡◌, ℕ, ◌*◌, ◌<◌, ◌≤◌, ◌⊎◌, List, [], ◌∷◌, length, take, ℤ, pos, ◌*ℤ◌, Some, None, Option, slice_index_or, unsigned_abs}
 use Rattle.shots.specs.declared.shot.Shot.{Shot}
@@ -57,4 +58,8 @@ Descends tariff xs p r =
     × (r ≡ Some m)
     × Cheaper (any m) (any l) (points tariff xs)
     × Turned (points tariff xs) (point tariff z) (any m)
-    × LowestThrough (point tariff z) (any m) (points tariff xs)
+
+abbrev pub LowestAt : (ℤ → ℕ × ℕ) → List Shot → ℤ → Option Line → Type 0
+LowestAt tariff xs p r =
+    (z : Shot) → Holds xs p → z ≡ slice_index_or xs (unsigned_abs p) z → (m : Line) → r ≡ Some m
+    → LowestThrough (point tariff z) (any m) (points tariff xs)

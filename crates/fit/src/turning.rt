@@ -1,6 +1,6 @@
 //! The turn of a line about a held shot: of all lines through the shot, the lowest of the cheapest.
 ghost use Rattle.std.specs.Prelude.{◌≡◌, ◌*◌, ◌≤◌, length, MatchOption};
-ghost use Rattle.fit.specs.Turning.{PullFrom, PullAt, Filled, TurnedAbout, TurnedAt, Descends};
+ghost use Rattle.fit.specs.Turning.{PullFrom, PullAt, Filled, TurnedAbout, TurnedAt, Descends, LowestAt};
 
 use crate::place::shot_at;
 use balance::{Pull, balance_point};
@@ -15,6 +15,7 @@ use shots::{PriceRule, Shot};
 pub fn turned_line<R: Rack, P: PriceRule>(rack: &R, rule: &P, place: i32) -> Option<Line>
     ensures turned { TurnedAt (P.PriceRule.tariff rule.now) (R.Rack.held rack.now) place result }
     ensures descends { Descends (P.PriceRule.tariff rule.now) (R.Rack.held rack.now) place result }
+    ensures lowest { LowestAt (P.PriceRule.tariff rule.now) (R.Rack.held rack.now) place result }
 {
     match rack.read(place) {
         Ok(z) => turn_about(rack, rule, z),

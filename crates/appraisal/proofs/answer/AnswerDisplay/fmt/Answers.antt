@@ -8,11 +8,3 @@ use Rattle.appraisal.proofs.answer.AnswerDisplay.fmt.Goals as goal
 pub returns-in-NotCheapest-clause-writes : goal.returns-in-NotCheapest-clause-writes
 returns-in-NotCheapest-clause-writes g c =
     subst (λ (a : Answer). WritesOnOk g.W.Write.write_str_gives c.args.f.now c.write-in-NotCheapest.result (text_of a) c.write-in-NotCheapest.new.self) (sym c.in-NotCheapest.is) c.write-in-NotCheapest.ensures.writes
-
-pub returns-in-Best-clause-writes : goal.returns-in-Best-clause-writes
-returns-in-Best-clause-writes g c =
-    subst (λ (a : Answer). WritesOnOk g.W.Write.write_str_gives c.args.f.now c.write-in-Best.result (text_of a) c.write-in-Best.new.self) (sym c.in-Best.is) c.write-in-Best.ensures.writes
-
-pub returns-in-NoLine-clause-writes : goal.returns-in-NoLine-clause-writes
-returns-in-NoLine-clause-writes g c =
-    subst (λ (a : Answer). WritesOnOk g.W.Write.write_str_gives c.args.f.now c.write_str-in-NoLine.result (text_of a) c.write_str-in-NoLine.new.self) (sym c.in-NoLine.is) c.write_str-in-NoLine.ensures.writes
