@@ -16,7 +16,7 @@ printf 'mod pass;\n\npub use pass::Pass;\n' >"$room/crates/sheet/src/lib.rt"
 # try BODY ERROR: a function of this body; ERROR is what must refuse it, or none.
 try() {
     printf 'use lines::Line;\nuse sheet::Pass;\n\npub fn user(pass: Pass, one: &mut Line, two: &mut Line) {\n    %s\n}\n' "$1" >"$room/crates/user/src/lib.rt"
-    if (cd "$room" && rt dev user >log 2>&1); then result=proved; else result=refused; fi
+    if (cd "$room/crates/user" && rt check >"$room/log" 2>&1); then result=proved; else result=refused; fi
     if [ "$2" = none ]; then
         [ $result = proved ] && echo "proved: $1" && return
     else

@@ -1,5 +1,6 @@
-//! What a card costs over test shots, and which line is the cheapest: the text lines of the program
-//! `appraise`, read, judged and answered. The program only carries bytes in and answers out.
+//! What a card costs over test shots: the text lines of the program `appraise`, read, judged and
+//! answered. The program only carries bytes in and answers out. Beside that, which line is the
+//! cheapest, found by a life of the same shots.
 #![tactic(auto)]
 
 mod answer;

@@ -1,4 +1,4 @@
-//! Worked examples, shown of the definitions themselves, in one table, and one whole life of a
+//! Worked examples, shown of the definitions themselves, in two tables, and one whole life of a
 //! sheet. Each example has a name that says what it shows.
 #![tactic(auto)]
 

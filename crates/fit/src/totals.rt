@@ -1,7 +1,7 @@
 //! What a line costs over the shots of a rack.
 ghost use Rattle.std.specs.Prelude.{◌≡◌, pos, ◌≤ℤ◌};
 ghost use Rattle.lines.specs.Lines.{any};
-ghost use Rattle.theory.specs.Points.{total as totalAt};
+ghost use Rattle.theory.specs.Points.{total as total_at};
 ghost use Rattle.fit.specs.Points.{points};
 ghost use Rattle.fit.specs.Totals.{total_of, Bounded, Even};
 
@@ -15,7 +15,7 @@ use shots::PriceRule;
 /// held shot on it. With even prices, the sum of the weighted misses without their sign.
 pub fn total<R: Rack, P: PriceRule>(rack: &R, rule: &P, line: Line) -> i64
     ensures value { result ≡ total_of (P.PriceRule.tariff rule.now) line (R.Rack.held rack.now) }
-    ensures points { result ≡ totalAt (any line) (points (P.PriceRule.tariff rule.now) (R.Rack.held rack.now)) }
+    ensures points { result ≡ total_at (any line) (points (P.PriceRule.tariff rule.now) (R.Rack.held rack.now)) }
     ensures least { pos 0 ≤ℤ result }
     ensures size { result ≤ℤ pos 196599808000000 }
     ensures most { Bounded line (R.Rack.held rack.now) result }

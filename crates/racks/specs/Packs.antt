@@ -1,11 +1,11 @@
 -- Shots packed in lent bytes bs, six to a shot, of which the first n images are held.
 --   shot_of_bytes    the shot whose image six bytes are, where they are one; else the shot of the four
---              numbers that they read as, each drawn into its range
+--                    numbers that they read as, each drawn into its range
 --   shots_of_bytes   the shots of the first n images
 --   places           how many shots the bytes have room for: one in each six, at most 512
 --   Stored           the bytes after an add: image n is the new shot's and the others stay, or all stay
 --   Closed           the bytes after a strike: the images past the place, up to image n, are moved down one
---              place and the others stay, or all stay
+--                    place and the others stay, or all stay
 -- Assumes nothing.
 use Rattle.std.specs.Prelude.{◌≡◌, ℕ, zero, suc, ◌+◌, ◌*◌, ◌/◌, min, max, List, [], ◌∷◌, ◌++◌, length, take, drop, ℤ, pos, negsuc, Ok, Err, Result, slice_index, slice_index_or, unsigned_abs}
 use Rattle.std.proofs.Common.{lit≤, to_z}

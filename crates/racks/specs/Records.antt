@@ -2,7 +2,7 @@
 --   room     how many shots the records have room for: one each, at most 512
 --   Stored   the records after an add: record n is the new shot and the others stay, or all stay
 --   Closed   the records after a strike: those past the place, up to record n, are moved down one
---             place and the others stay, or all stay
+--            place and the others stay, or all stay
 -- Assumes nothing.
 use Rattle.std.specs.Prelude.{◌≡◌, ℕ, ◌+◌, min, List, length, ℤ, Ok, Err, Result, slice_set, unsigned_abs}
 use Rattle.shots.specs.Shots.{Reads}

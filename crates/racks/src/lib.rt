@@ -1,6 +1,6 @@
 //! Racks: shots in order, in memory that the caller lends. A rack is whatever answers as `Rack`
-//! says; here are one in records, one in packed bytes, a layer that negates each lead, and the rule
-//! that a lent rack is a rack.
+//! says; here are one in records, one in packed bytes, a layer that negates each lead, the rule that a
+//! lent rack is a rack, and whether a rack holds no shot.
 #![tactic(auto)]
 
 mod empty;

@@ -1,12 +1,12 @@
 -- A sheet as its calls see it, and their results as answers.
---   sees                                                            what is seen of a sheet through the meanings of its rack and its rule
+--   sees         what is seen of a sheet through the meanings of its rack and its rule
 --   done_reply, pivot_reply, mount_reply, slip_reply, issue_reply   the answer that a call's result is
---   accepted                                                        whether a change was accepted, without the stage that follows
---   Follows                                                         what is so of the stage that follows an accepted change
---   Judged                                                          what the test says of a line that is tried
---   SlipWrites                                                      what a slip writes into a table: the rows of the shots on the line in force, and no more; a
---                           refused one writes nothing
---   line_on                                                         the line on the pass that a result has, if it has one
+--   accepted     whether a change was accepted, without the stage that follows
+--   Follows      what is so of the stage that follows an accepted change
+--   Judged       what the test says of a line that is tried
+--   SlipWrites   what a slip writes into a table: the rows of the shots on the line in force, and no more; a
+--                refused one writes nothing
+--   line_on      the line on the pass that a result has, if it has one
 -- Assumes nothing.
 use Rattle.std.specs.Prelude.{◌≡◌, ℕ, List, ◌++◌, drop, ℤ, Some, None, Ok, Err, Option, Result}
 use Rattle.shots.specs.declared.shot.Shot.{Shot}

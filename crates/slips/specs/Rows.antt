@@ -5,7 +5,7 @@
 --   rows_of     the rows of a list of shots, in order of place: one for each shot on the line
 --   RowAt       the answer to a question for the row of the shot at a place: none where it is off the line
 --   Written     the answer, and the table after it: as many rows as there are shots on the line, then the table as it
---              was beyond them; or none, and the table as it was, where it is too short
+--               was beyond them; or none, and the table as it was, where it is too short
 -- Assumes nothing.
 use Rattle.std.specs.Prelude.{◌≡◌, ℕ, suc, ◌+◌, ◌<◌, ◌≤◌, cond, List, [], ◌∷◌, ◌++◌, length, drop, ℤ, pos, Some, None, Option, int_lt, slice_index_or}
 use Rattle.shots.specs.declared.shot.Shot.{Shot}

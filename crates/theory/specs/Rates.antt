@@ -1,6 +1,6 @@
 -- The two rates of a point, and the test.
 --   rise_part, fall_part   what a point y adds to the rise rate and to the fall rate of z
---   rise_of, fall_of       the rise and the fall rate of z: what it costs at first to turn the line about z, up or down (one_sided directional derivatives)
+--   rise_of, fall_of       the rise and the fall rate of z: what it costs at first to turn the line about z, up or down (one-sided directional derivatives)
 --   Passing                neither rate of z is below 0
 --   Failing                a rate of z is below 0
 --   Passes                 the test: each point of the list that lies on the line is passing

@@ -38,7 +38,7 @@ TurnLowersTheCount =
 abbrev pub CountIsBounded : Type 0
 CountIsBounded = (l : AnyLine) (xs : List Point) → IsRival l → Spans l xs → cheaper_pairs l xs < length xs * (length xs - 1) / 2
 
--- the rates of a point are the one_sided slopes of the cost of the lines through it
+-- the rates of a point are the one-sided slopes of the cost of the lines through it
 abbrev pub RatesAreOneSidedSlopes : Type 0
 RatesAreOneSidedSlopes = (l m : AnyLine) (xs : List Point) (z : Point) → IsRival l → IsRival m → On l z → On m z → OneSided l m xs z
 
