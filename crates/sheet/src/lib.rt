@@ -1,7 +1,7 @@
 //! A sheet: the test shots of one valve and the line for them. Six calls work it (add, strike, pivot,
 //! mount, slip, issue), and one more makes a whole life of such calls. What they promise over any
-//! sequence is the law of the crate `law`, which each call's contract names. Four theorems about every
-//! life are at hand here too.
+//! sequence is the law of the crate `law`, which each call's contract names. Four theorems about
+//! lives are at hand here too.
 #![tactic(auto)]
 
 mod changing;
