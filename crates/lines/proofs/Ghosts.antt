@@ -1,35 +1,21 @@
 -- The ghost fields of slopes and lines: what they hold, and that values with equal numbers are equal, since a ghost field has one proof at most.
-use Rattle.std.proofs.Common.{◌≡◌, ℕ, ℤ, pos, negsuc, ◌*ℤ◌, nat_abs, ◌≤ℤ◌, ◌<ℤ◌, sym, subst, subst₂}
+use Rattle.std.proofs.Common.{◌≡◌, ℤ, pos, negsuc, ◌*ℤ◌, nat_abs, ◌≤ℤ◌, ◌<ℤ◌, sym, subst, subst₂}
 use mathlib.Core.Path.{to_path_p}
-use native.Mathlib.Nat.{ℕ_set}
 use lib.Dec.{T_prop}
-use lib.Signed.{le_z, lt_z}
+use lib.Signed.{le_z}
 use Rattle.lines.specs.Divisors.{Coprime}
 use Rattle.lines.specs.Lines.{IsLine, Reads}
 use Rattle.lines.specs.Slopes.{Worth}
 use Rattle.lines.specs.declared.line.Line.{Line}
 use Rattle.lines.specs.declared.slope.Slope.{Slope}
-use Rattle.lines.proofs.Lowest.{same_slope}
+use Rattle.lines.specs.LowestTerms.{same_slope}
+pub use Rattle.lines.specs.SlopeLaws.{same_slopes}
+use Rattle.lines.specs.SlopeLaws.{coprime_prop}
 use Rattle.lines.proofs.Order.{cancel, scale}
 use Rattle.lines.proofs.Ring.{lin, ring, flat, from, ◌&◌}
 
-lt_prop : {a b : ℤ} (p q : a <ℤ b) → p ≡ q
-lt_prop {a} {b} p q = λ i. record { lt = T_prop (lt_z a b) p.lt q.lt i }
-
 le_prop : {a b : ℤ} (p q : a ≤ℤ b) → p ≡ q
 le_prop {a} {b} p q = λ i. record { le = T_prop (le_z a b) p.le q.le i }
-
-coprime_prop : {a b : ℕ} (p q : Coprime a b) → p ≡ q
-coprime_prop p q = λ i d u v. ℕ_set _ _ (p d u v) (q d u v) i
-
-pub same_slopes : (x y : Slope) → x.rise ≡ y.rise → x.run ≡ y.run → x ≡ y
-same_slopes x y e f =
-    λ i. record {
-      rise = e i;
-      run = f i;
-      ahead = to_path_p (λ j. pos 0 <ℤ f j) {a = x.ahead} {b = y.ahead} (lt_prop _ _) i;
-      lowest = to_path_p (λ j. Coprime (nat_abs (e j)) (nat_abs (f j))) {a = x.lowest} {b = y.lowest} (coprime_prop _ _) i;
-    }
 
 pub same_lines : (l m : Line) → l.a ≡ m.a → l.b ≡ m.b → l.c ≡ m.c → l ≡ m
 same_lines l m e f g =

@@ -1,31 +1,26 @@
 -- The line laid from a shot to a faster one: its numbers are in range, both shots lie on it, and on no other line.
-use Rattle.std.proofs.Common.{◌≡◌, ℕ, suc, ◌<◌, ◌≤◌, ℤ, pos, negsuc, ◌-ℤ◌, ◌*ℤ◌, ◌≤ℤ◌, ◌<ℤ◌, Some, None, Option, sym, ap, ◌∙◌, subst₂, inl, inr, mul-le-mul_right, arith, w16, w32, MatchOption}
+use Rattle.std.proofs.Common.{◌≡◌, ℕ, suc, ◌<◌, ◌≤◌, ℤ, pos, negsuc, ◌-ℤ◌, ◌*ℤ◌, ◌≤ℤ◌, ◌<ℤ◌, Some, None, Option, ap, ◌∙◌, subst₂, mul-le-mul_right, arith, MatchOption, w16, w32}
 use native.Mathlib.Nat.{pos_of_dvd_of_pos}
 use Rattle.std.proofs.lemmas.Int.{ints}
 use Rattle.shots.specs.declared.shot.Shot.{Shot}
-use Rattle.lines.specs.Lines.{IsLine, miss, On}
+use Rattle.lines.specs.About.{Fits, About}
+use Rattle.lines.specs.Lines.{miss, On}
 use Rattle.lines.specs.Slopes.{Reduced, Each}
-use Rattle.lines.specs.Through.{run_of, rise_of, LaidFrom, Through}
+use Rattle.lines.specs.Through.{run_of, rise_of, LaidFrom}
 use Rattle.lines.specs.declared.line.Line.{Line}
 use Rattle.lines.specs.declared.slope.Slope.{Slope}
-use Rattle.lines.proofs.Lowest.{coprime_swap, same_slope}
+use Rattle.lines.specs.LowestTerms.{same_slope}
+use Rattle.lines.proofs.Lowest.{coprime_swap}
 use Rattle.lines.proofs.Order.{cancel, scale}
 use Rattle.lines.proofs.Ring.{lin, ring, flat, from, ◌&◌}
-use Rattle.lines.proofs.Ghosts.{Facts, facts, same_lines}
-use Rattle.lines.proofs.Sizes.{Sized, back, told}
+use Rattle.lines.proofs.Ghosts.{same_lines}
+use Rattle.lines.proofs.Sizes.{Sized, back}
 
 -- ---- in range
 -- a number times one of 1 or more is no smaller than the number
 part : (g : ℕ) (z y : ℤ) (m : ℕ) → 0 < g → pos g *ℤ z ≡ y → Sized m y → Sized m z
 part g (pos n) y m h e k = let l = mul-le-mul_right n h in record { low = omega (arith, ints); high = omega (arith, ints) }
 part g (negsuc n) y m h e k = let l = mul-le-mul_right (suc n) h in record { low = omega (arith, ints); high = omega (arith, ints) }
-
--- the differences as they are computed in 32 bits from `i32::from`
-pub differences : (p q : Shot) {u v x y : ℤ} (s : Slope) → u ≡ pos q.speed → v ≡ pos p.speed → x ≡ back w16 q.lead → y ≡ back w16 p.lead → Reduced (back w32 (back w32 x -ℤ back w32 y)) (back w32 (back w32 u -ℤ back w32 v)) s → Reduced (rise_of p q) (run_of p q) s
-differences p q {u} {v} {x} {y} s eu ev ex ey r =
-    let e : back w32 (back w32 x -ℤ back w32 y) ≡ rise_of p q = omega (arith, ints) in
-    let f : back w32 (back w32 u -ℤ back w32 v) ≡ run_of p q = omega (arith, ints) in
-    subst₂ (λ a b. Reduced a b s) e f r
 
 module _ (p q : Shot) (s : Slope) (r : Reduced (rise_of p q) (run_of p q) s) where
   above : 0 < r.divisor
@@ -41,46 +36,37 @@ module _ (p q : Shot) (s : Slope) (r : Reduced (rise_of p q) (run_of p q) s) whe
       let k : Sized 16000 (rise_of p q) = record { low = omega (arith, ints); high = omega (arith, ints) } in
       part r.divisor s.rise (rise_of p q) 16000 above r.rise k
 
-  pub laid_line : {c : ℤ} → Sized 95992000 c → IsLine s.run s.rise c
-  laid_line k = record {
-    ahead = omega (arith, ints, s.ahead);
-    fine = run_size.high;
-    fall = rise_size.low;
-    rise = rise_size.high;
-    low = omega (arith, ints);
-    high = omega (arith, ints);
-    lowest = coprime_swap s.lowest;
-  }
+  pub laid_fits : Fits s
+  laid_fits = record { fine = run_size.high; fall = rise_size.low; rise = rise_size.high }
 
-  pub laid_from : (l : Line) → l.a ≡ s.run → l.b ≡ s.rise → l.c ≡ s.run *ℤ p.lead -ℤ s.rise *ℤ pos p.speed → LaidFrom p q l
-  laid_from l ea eb ec = record {
+  -- the line of that slope through the first shot
+  pub laid : (o : Option Line) → About p s o → MatchOption o (q.speed ≤ p.speed) (λ l. LaidFrom p q l)
+  unfolding miss
+  laid None h = absurd (h laid_fits)
+  laid (Some l) h = record {
     slower = let f = r.forward in omega (arith, ints);
     divisor = r.divisor;
     common = r.common;
-    a = ap (λ z. pos r.divisor *ℤ z) ea ∙ r.run;
-    b = ap (λ z. pos r.divisor *ℤ z) eb ∙ r.rise;
-    c = ec ∙ ap (λ z. z *ℤ p.lead -ℤ s.rise *ℤ pos p.speed) (sym ea) ∙ ap (λ z. l.a *ℤ p.lead -ℤ z *ℤ pos p.speed) (sym eb);
+    a = ap (λ z. pos r.divisor *ℤ z) h.0 ∙ r.run;
+    b = ap (λ z. pos r.divisor *ℤ z) h.1 ∙ r.rise;
+    c = omega (lin, h.2);
   }
 
--- what `laid_from` owes, for the slope s that it got
-pub record Laying (p q : Shot) (s : Slope) : Type 0 where
-  pub needed : (pos 1 ≤ℤ back w32 s.run) × ((back w32 s.run ≤ℤ pos 3999) × ((negsuc 15999 ≤ℤ back w32 s.rise) × (back w32 s.rise ≤ℤ pos 16000)))
-  pub ghosts : {c : ℤ} → Sized 95992000 c → Facts (back w32 s.run) (back w32 s.rise) (back w32 c)
-  pub rule : {c : ℤ} → Sized 95992000 c → c ≡ back w32 s.run *ℤ p.lead -ℤ back w32 s.rise *ℤ pos p.speed → (l : Line) → l.a ≡ back w32 s.run → l.b ≡ back w32 s.rise → l.c ≡ back w32 c → LaidFrom p q l
+-- ---- the slope of two shots
+-- the differences as they are computed in 32 bits from `i32::from`
+pub differences : (p q : Shot) {u v x y : ℤ} (s : Slope) → u ≡ pos q.speed → v ≡ pos p.speed → x ≡ back w16 q.lead → y ≡ back w16 p.lead → Reduced (back w32 (back w32 x -ℤ back w32 y)) (back w32 (back w32 u -ℤ back w32 v)) s → Reduced (rise_of p q) (run_of p q) s
+differences p q {u} {v} {x} {y} s eu ev ex ey r =
+    let e : back w32 (back w32 x -ℤ back w32 y) ≡ rise_of p q = omega (arith, ints) in
+    let f : back w32 (back w32 u -ℤ back w32 v) ≡ run_of p q = omega (arith, ints) in
+    subst₂ (λ a b. Reduced a b s) e f r
 
-pub laying : (p q : Shot) (s : Slope) {t u v w : ℤ} → t ≡ pos q.speed → u ≡ pos p.speed → v ≡ back w16 q.lead → w ≡ back w16 p.lead → Reduced (back w32 (back w32 v -ℤ back w32 w)) (back w32 (back w32 t -ℤ back w32 u)) s → Laying p q s
-laying p q s et eu ev ew r =
-    let d = differences p q s et eu ev ew r in
-    let h = run_size p q s d in
-    let k = rise_size p q s d in
-    let o = s.ahead in
-    let ea : back w32 s.run ≡ s.run = omega (arith, ints) in
-    let eb : back w32 s.rise ≡ s.rise = omega (arith, ints) in
-    record {
-      needed = (omega (arith, ints), (omega (arith, ints), (omega (arith, ints), omega (arith, ints))));
-      ghosts = λ {c} z. facts ea eb (let y : back w32 c ≡ c = omega (arith, ints) in y) (laid_line p q s d z);
-      rule = λ {c} z e l x y w. let i : back w32 c ≡ c = omega (arith, ints) in laid_from p q s d l (x ∙ ea) (y ∙ eb) (w ∙ i ∙ told p.lead (pos p.speed) h k e);
-    }
+pub sloped : (p q : Shot) {u v x y : ℤ} (o : Option Slope) → u ≡ pos q.speed → v ≡ pos p.speed → x ≡ back w16 q.lead → y ≡ back w16 p.lead → MatchOption o (back w32 (back w32 u -ℤ back w32 v) ≤ℤ pos 0) (λ s. Reduced (back w32 (back w32 x -ℤ back w32 y)) (back w32 (back w32 u -ℤ back w32 v)) s) → MatchOption o (q.speed ≤ p.speed) (λ s. Reduced (rise_of p q) (run_of p q) s)
+sloped p q None eu ev ex ey h = omega (arith, ints)
+sloped p q (Some s) eu ev ex ey h = differences p q s eu ev ex ey h
+
+pub sloped_fits : (p q : Shot) (r : Option Slope) → MatchOption r (q.speed ≤ p.speed) (λ s. Reduced (rise_of p q) (run_of p q) s) → Each r Fits
+sloped_fits p q None h = tt
+sloped_fits p q (Some s) h = laid_fits p q s h
 
 -- ---- both shots lie on it
 off : (g a b c h i s t : ℤ) → g *ℤ a ≡ t -ℤ s → g *ℤ b ≡ i -ℤ h → c ≡ a *ℤ h -ℤ b *ℤ s → a *ℤ i -ℤ b *ℤ t -ℤ c ≡ pos 0
@@ -114,20 +100,16 @@ only_line p q l k m onp onq =
     let v = ap (λ z. z *ℤ pos p.speed) r.0 in
     same_lines m l r.1 r.0 (omega (lin, k.c))
 
--- ---- what `Line::through` answers
+-- ---- what `Line::through` answers, where the first shot is the slower
 pub record Drawn (p q : Shot) (r : Option Line) : Type 0 where
-  pub rule : Through p q r
-  pub swapped : Through q p r
   pub both : Each r (λ l. On l p × On l q)
   pub only : Each r (λ l. (m : Line) → On m p → On m q → m ≡ l)
   pub both_swapped : Each r (λ l. On l q × On l p)
   pub only_swapped : Each r (λ l. (m : Line) → On m q → On m p → m ≡ l)
 
-pub drawn : (p q : Shot) (r : Option Line) → p.speed ≤ q.speed → MatchOption r (q.speed ≤ p.speed) (λ l. LaidFrom p q l) → Drawn p q r
-drawn p q None h k = record { rule = omega arith; swapped = omega arith; both = tt; only = tt; both_swapped = tt; only_swapped = tt }
-drawn p q (Some l) h k = record {
-  rule = inl k;
-  swapped = inr k;
+pub drawn : (p q : Shot) (r : Option Line) → MatchOption r (q.speed ≤ p.speed) (λ l. LaidFrom p q l) → Drawn p q r
+drawn p q None k = record { both = tt; only = tt; both_swapped = tt; only_swapped = tt }
+drawn p q (Some l) k = record {
   both = (on_slow p q l k, on_fast p q l k);
   only = only_line p q l k;
   both_swapped = (on_fast p q l k, on_slow p q l k);

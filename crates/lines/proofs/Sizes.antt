@@ -1,6 +1,7 @@
 -- Bounds that keep the arithmetic of lines from wrapping: what is computed in 32, 64 or 128 bits is what the formula says.
 use Rattle.std.proofs.Common.{◌≡◌, ℕ, ◌*◌, ◌≤◌, ℤ, pos, negsuc, ◌-ℤ◌, ◌*ℤ◌, neg_ℤ, ◌≤ℤ◌, ap, ◌∙◌, mul-le-mul, arith, w16, w32, w64, SFits, to_z, of_z}
 use mir.Syntax.{Width, w128}
+use Rattle.std.specs.Ordering.{int_cmp}
 use Rattle.std.proofs.lemmas.Int.{ints}
 use Rattle.shots.specs.declared.shot.Shot.{Shot}
 use Rattle.lines.specs.Lines.{miss, miss_of}
@@ -29,8 +30,6 @@ abbrev pub cross : ℤ → ℤ → ℤ → ℤ → ℤ
 cross a x b y = back w32 (back w32 a *ℤ back w32 x) -ℤ back w32 (back w32 b *ℤ back w32 y)
 
 pub record Crossed (a b : ℤ) (z : Shot) (x y : ℤ) : Type 0 where
-  pub first : SFits w32 (back w32 a *ℤ back w32 x)
-  pub second : SFits w32 (back w32 b *ℤ back w32 y)
   pub fits : SFits w32 (cross a x b y)
   pub value : back w32 (cross a x b y) ≡ a *ℤ z.lead -ℤ b *ℤ pos z.speed
   pub low : negsuc 95991999 ≤ℤ back w32 (cross a x b y)
@@ -47,8 +46,6 @@ crossed {a} {b} z {x} {y} ha hb e f =
     let p = sized_mul ha h in
     let q = sized_mul hb k in
     record {
-      first = simp (ea, ex) (omega (arith, ints));
-      second = simp (eb, ey) (omega (arith, ints));
       fits = simp (ea, ex, eb, ey) (omega (arith, ints));
       value = simp (ea, ex, eb, ey) (omega (arith, ints));
       low = simp (ea, ex, eb, ey) (omega (arith, ints));
@@ -97,3 +94,17 @@ wide_product x y t a f g ex ey =
     let k : Sized 2147483648 a = record { low = omega (arith, ints); high = omega (arith, ints) } in
     let q = sized_mul h k in
     simp (dx, dy) (omega (arith, ints))
+
+-- ---- two products of 32-bit numbers in 64 bits, and how they compare
+product_back : (x y a b : ℤ) → SFits w32 a → SFits w32 b → x ≡ back w32 a → y ≡ back w32 b → back w64 (back w64 x *ℤ back w64 y) ≡ a *ℤ b
+product_back x y a b f g ex ey =
+    let dx : back w64 x ≡ a = omega (arith, ints) in
+    let dy : back w64 y ≡ b = omega (arith, ints) in
+    let h : Sized 2147483648 a = record { low = omega (arith, ints); high = omega (arith, ints) } in
+    let k : Sized 2147483648 b = record { low = omega (arith, ints); high = omega (arith, ints) } in
+    let q = sized_mul h k in
+    simp (dx, dy) (omega (arith, ints))
+
+pub cross_back : (a b c d : ℤ) {x y z w : ℤ} → SFits w32 a → SFits w32 b → SFits w32 c → SFits w32 d → x ≡ back w32 a → y ≡ back w32 d → z ≡ back w32 c → w ≡ back w32 b → int_cmp (back w64 (back w64 x *ℤ back w64 y)) (back w64 (back w64 z *ℤ back w64 w)) ≡ int_cmp (a *ℤ d) (c *ℤ b)
+cross_back a b c d {x} {y} {z} {w} fa fb fc fd ex ey ez ew =
+    ap (λ v. int_cmp v (back w64 (back w64 z *ℤ back w64 w))) (product_back x y a d fa fd ex ey) ∙ ap (int_cmp (a *ℤ d)) (product_back z w c b fc fb ez ew)

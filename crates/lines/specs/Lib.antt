@@ -1,4 +1,4 @@
--- The definitions that the contracts of `lines` cite.
+-- The definitions that the contracts of `lines` cite, and the laws that its ghost members hold.
 pub mod Divisors
 pub mod Slopes
 pub mod Lines
@@ -8,3 +8,7 @@ pub mod Costs
 pub mod Priced
 pub mod Sums
 pub mod About
+pub mod Texts
+pub mod SlopeOrder
+pub mod LowestTerms
+pub mod SlopeLaws

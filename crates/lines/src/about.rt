@@ -12,7 +12,7 @@ impl Line {
     pub fn about(shot: Shot, slope: Slope) -> Option<Line>
         ensures { About shot slope result }
     {
-        if slope.run > 3999 || slope.rise < -16_000 || slope.rise > 16_000 {
+        if slope.run > 3999 || !(-16_000..=16_000).contains(&slope.rise) {
             return None;
         }
         Some(Line {

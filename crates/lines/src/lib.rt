@@ -3,6 +3,7 @@
 #![tactic(auto)]
 
 mod about;
+mod between;
 mod euclid;
 mod intercept;
 mod line;
@@ -12,8 +13,10 @@ mod priced;
 mod reduce;
 mod share;
 mod slope;
+mod slope_order;
 #[cfg(test)]
 mod tests;
+mod text;
 mod through;
 
 pub use euclid::gcd;

@@ -10,13 +10,13 @@ impl Line {
     pub fn new(a: i32, b: i32, c: i32) -> Option<Line>
         ensures { Made a b c result }
     {
-        if a < 1 || a > 3999 {
+        if !(1..=3999).contains(&a) {
             return None;
         }
-        if b < -16_000 || b > 16_000 {
+        if !(-16_000..=16_000).contains(&b) {
             return None;
         }
-        if c < -96_000_000 || c > 96_000_000 {
+        if !(-96_000_000..=96_000_000).contains(&c) {
             return None;
         }
         if gcd(b.unsigned_abs(), a as u32) != 1 {

@@ -1,6 +1,6 @@
 //! How far a shot lies off a line, and on which side.
-ghost use Rattle.std.specs.Prelude.{◌≡◌, pos, negsuc, ◌≤ℤ◌};
-ghost use Rattle.lines.specs.Lines.{miss_of};
+ghost use Rattle.std.specs.Prelude.{◌≡◌, pos, negsuc, ◌≤ℤ◌, Decides};
+ghost use Rattle.lines.specs.Lines.{miss_of, On};
 ghost use Rattle.lines.specs.Sides.{side_of};
 
 use crate::intercept::intercept;
@@ -26,6 +26,13 @@ impl Line {
         ensures small { (negsuc 191991999 ≤ℤ result) × (result ≤ℤ pos 191992000) }
     {
         intercept(self.a, self.b, shot) - self.c
+    }
+
+    /// Whether a shot lies on the line.
+    pub fn passes_through(self, shot: Shot) -> bool
+        ensures { Decides result (On self shot) }
+    {
+        self.miss(shot) == 0
     }
 
     /// The side of a shot, by the sign of its miss.

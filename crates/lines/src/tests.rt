@@ -5,34 +5,27 @@ use std::test::Fail;
 
 /// The three numbers of a line; three zeros, which make none, where there is none.
 fn numbers(line: Option<Line>) -> (i32, i32, i32) {
-    match line {
-        Some(line) => (line.a, line.b, line.c),
-        None => (0, 0, 0),
-    }
+    line.map_or((0, 0, 0), |line| (line.a, line.b, line.c))
 }
 
 /// The two terms of a slope; two zeros, which make none, where there is none.
 fn terms(slope: Option<Slope>) -> (i32, i32) {
-    match slope {
-        Some(slope) => (slope.rise, slope.run),
-        None => (0, 0),
-    }
+    slope.map_or((0, 0), |slope| (slope.rise, slope.run))
 }
 
 /// A shot that counts twice.
 fn shot(speed: i32, lead: i32) -> Result<Shot, Fail> {
-    match Shot::new(speed, lead, 2, 0) {
-        Ok(shot) => Ok(shot),
-        Err(_) => Err(Fail::new("no shot")),
-    }
+    Ok(Shot::new(speed, lead, 2, 0)?)
 }
 
 /// The line of three numbers.
 fn line(a: i32, b: i32, c: i32) -> Result<Line, Fail> {
-    match Line::new(a, b, c) {
-        Some(line) => Ok(line),
-        None => Err(Fail::new("no line")),
-    }
+    Line::new(a, b, c).ok_or_else(|| Fail::new("no line"))
+}
+
+/// The slope of two terms.
+fn slope(rise: i32, run: i32) -> Result<Slope, Fail> {
+    reduced(rise, run).ok_or_else(|| Fail::new("no slope"))
 }
 
 #[test]
@@ -131,5 +124,36 @@ fn cheaper_lines(rt: HostRuntime) -> Result<(), Fail> {
     let less = PricedLine { line: steep, total };
     assert!(rt; least.is_cheaper_than(less));
     assert!(rt; !less.is_cheaper_than(least));
+    Ok(())
+}
+
+#[test]
+fn slopes_of_two_shots(rt: HostRuntime) -> Result<(), Fail> {
+    let p = shot(500, 20)?;
+    let q = shot(1000, 0)?;
+    assert_eq!(rt; terms(Slope::between(p, q)), (-1, 25));
+    assert_eq!(rt; terms(Slope::between(q, p)), (0, 0));
+    assert_eq!(rt; terms(Slope::between(p, p)), (0, 0));
+    Ok(())
+}
+
+#[test]
+fn slopes_in_order(rt: HostRuntime) -> Result<(), Fail> {
+    let half = slope(1, 2)?;
+    let third = slope(1, 3)?;
+    let fall = slope(-7, 1)?;
+    assert!(rt; third < half);
+    assert!(rt; fall < third);
+    assert!(rt; half <= slope(5, 10)?);
+    assert!(rt; slope(i32::MIN, i32::MAX)? < slope(i32::MAX, i32::MAX)?);
+    Ok(())
+}
+
+#[test]
+fn shots_on_a_line(rt: HostRuntime) -> Result<(), Fail> {
+    let line = line(25, -1, 1000)?;
+    assert!(rt; line.passes_through(shot(1000, 0)?));
+    assert!(rt; !line.passes_through(shot(1000, 4)?));
+    assert!(rt; !line.passes_through(shot(500, 10)?));
     Ok(())
 }

@@ -4,9 +4,8 @@ ghost use Rattle.lines.specs.Slopes.{Each};
 ghost use Rattle.lines.specs.Lines.{On};
 ghost use Rattle.lines.specs.Through.{LaidFrom, Through};
 
-use crate::intercept::intercept;
 use crate::line::Line;
-use crate::reduce::reduced;
+use crate::slope::Slope;
 use shots::Shot;
 
 impl Line {
@@ -30,14 +29,6 @@ impl Line {
 fn laid_from(slow: Shot, fast: Shot) -> Option<Line>
     ensures { MatchOption result (fast.speed ≤ slow.speed) (λ l. LaidFrom slow fast l) }
 {
-    let run = i32::from(fast.speed) - i32::from(slow.speed);
-    let rise = i32::from(fast.lead) - i32::from(slow.lead);
-    match reduced(rise, run) {
-        None => None,
-        Some(slope) => Some(Line {
-            a: slope.run,
-            b: slope.rise,
-            c: intercept(slope.run, slope.rise, slow),
-        }),
-    }
+    // the slope of two shots fits a line
+    Line::about(slow, Slope::between(slow, fast)?)
 }

@@ -1,20 +1,11 @@
--- `gcd`: a turn keeps the common divisors, and at y = 0 the greatest of them is x.
-use Rattle.std.proofs.Common.{sym, subst}
-use Prim.Native.Nat.{◌∣◌}
-use native.Mathlib.Nat.{dvd_refl, dvd-zero, dvd-mod_iff}
+-- `gcd`: a turn keeps the greatest common divisor, and at y = 0 it is x.
+use Rattle.std.proofs.lemmas.Nat.Gcd.{IsGcd-from_mod, IsGcd-from_zero}
 use Rattle.lines.proofs.euclid.gcd.Goals as goal
 
 pub loop-y-preserved : goal.loop-y-preserved
-loop-y-preserved c =
-    let v = c.loop-y.invariant in (
-      λ d p q. v.0 d ((dvd-mod_iff d p).0 q) p,
-      λ d p q. let r = v.1 d p q in (r.1, (dvd-mod_iff d r.1).1 r.0),
-    )
+loop-y-preserved c = λ g h. c.loop-y.invariant g (IsGcd-from_mod c.loop-y.x c.loop-y.y g h)
 
 pub returns : goal.returns
 returns c =
-    let v = c.loop-y.invariant in
-    let x = c.loop-y.x in
-    let z = c.loop-y-test.false in
-    let r = v.0 x (dvd_refl x) (subst (λ n. x ∣ n) (sym z) (dvd-zero x)) in
-    record { left = r.0; right = r.1; greatest = λ d p q. (v.1 d p q).0 }
+    let k = c.loop-y.invariant c.loop-y.x (IsGcd-from_zero c.loop-y.x c.loop-y.y c.loop-y-test.false) in
+    record { left = k.0; right = k.1; greatest = k.2 }

@@ -1,20 +1,7 @@
--- `laid_from`: the reduced differences of the shots are in a line's ranges, and with C they follow the rule.
-use Rattle.std.proofs.Common.{refl, arith}
-use Rattle.std.proofs.lemmas.Int.{ints}
-use Rattle.lines.proofs.Laying.{laying}
-use Rattle.lines.proofs.Sizes.{Sized}
+-- `laid_from`: the line of the shots' slope through the slower one follows the rule.
+use Rattle.lines.proofs.Laying.{laid}
 use Rattle.lines.proofs.through.laid_from.Goals as goal
 
-pub intercept-requires : goal.intercept-requires
-intercept-requires c =
-    (laying c.args.slow c.args.fast c.in-Some.slope c.from.ensures c.from-2.ensures c.from-3.ensures c.from-4.ensures c.in-Some.ensures.value).needed
-
-pub invariant_of-result : goal.invariant_of-result
-invariant_of-result c =
-    let z : Sized 95992000 c.intercept.result = record { low = omega (arith, ints); high = omega (arith, ints) } in
-    (laying c.args.slow c.args.fast c.in-Some.slope c.from.ensures c.from-2.ensures c.from-3.ensures c.from-4.ensures c.in-Some.ensures.value).ghosts z
-
-pub returns-in-Some : goal.returns-in-Some
-returns-in-Some c =
-    let z : Sized 95992000 c.intercept.result = record { low = omega (arith, ints); high = omega (arith, ints) } in
-    (laying c.args.slow c.args.fast c.in-Some.slope c.from.ensures c.from-2.ensures c.from-3.ensures c.from-4.ensures c.in-Some.ensures.value).rule z c.intercept.ensures.value _ refl refl refl
+pub returns : goal.returns
+returns c =
+    laid c.args.slow c.args.fast c.in_ok-between.field-0 c.in_ok-between.ensures.slope c.about.result c.about.ensures

@@ -9,7 +9,7 @@ use Rattle.lines.proofs.line.Line.about.Goals as goal
 pub invariant_of-result : goal.invariant_of-result
 invariant_of-result c =
     let t = c.args.slope in
-    let k : Fits t = record { fine = omega (arith, ints); fall = omega (arith, ints); rise = omega (arith, ints) } in
+    let k : Fits t = record { fine = grind (arith, ints); fall = grind (arith, ints); rise = grind (arith, ints) } in
     facts (omega (arith, ints)) (omega (arith, ints)) (omega (arith, ints)) (about_line t c.intercept.result k c.intercept.ensures.small.0 c.intercept.ensures.small.1)
 
 pub returns : goal.returns

@@ -1,11 +1,8 @@
--- `miss`: the difference does not wrap, and is the residual.
+-- `miss`: the difference is the residual.
 use Rattle.std.proofs.Common.{arith}
 use Rattle.std.proofs.lemmas.Int.{ints}
 use Rattle.lines.proofs.Sizes.{Sized, missed}
 use Rattle.lines.proofs.line.Line.miss.Goals as goal
-
-pub overflow_sub-result : goal.overflow_sub-result
-overflow_sub-result c = omega (arith, ints)
 
 pub returns : goal.returns
 returns c =
