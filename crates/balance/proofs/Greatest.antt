@@ -1,23 +1,17 @@
--- The greatest key, pull by pull.
-use Rattle.std.proofs.Common.{◌≡◌, ℕ, ◌+◌, ◌<◌, Bool, true, false, cond, List, length, get_or, sym, refl, subst}
-use Rattle.balance.specs.Balances.{Among}
-use Rattle.balance.specs.Orders.{Order}
+-- The greatest key of the pulls is a key of a pull, and no key is above it.
+use Rattle.std.proofs.Common.{◌≡◌, true, false, List, sym, refl, subst}
+use Rattle.std.specs.List.{All, Contains}
+use Rattle.std.specs.Ordering.{is_gt}
+use Rattle.std.specs.declared.cmp.Ordering.{Ordering}
+use Rattle.balance.specs.Balances.{Every, Among}
+use Rattle.balance.specs.Orders.{at_most}
 use Rattle.balance.specs.declared.pull.Pull.{Pull}
-use Rattle.balance.proofs.Sums.{every_more}
+use Rattle.balance.proofs.Orders.{at_most_from}
 
--- the best is the key of a pull, and none of the first i keys is above it
-pub record Greatest {K : Type 0} (le : K → K → Bool) (ps : List (Pull K)) (i : ℕ) (best : K) : Type 0 where
-  pub among : Among (λ p. p.key ≡ best) ps
-  pub top : (k : ℕ) (p : Pull K) → k < i → p ≡ get_or ps k p → le p.key best ≡ true
+module _ {K : Type 0} (cmp : K → K → Ordering) (ps : List (Pull K)) (p : Pull K) where
+  pub among : Contains ps p → Among (λ q. q.key ≡ p.key) ps
+  among h = (h.0, p, h.1, sym h.2, refl)
 
-module _ {K : Type 0} {le : K → K → Bool} (o : Order le) {ps : List (Pull K)} {i : ℕ} where
-  kept : {best : K} → Greatest le ps i best → (x : Pull K) → i < length ps → x ≡ get_or ps i x → (b : Bool) → b ≡ le best x.key → Greatest le ps (i + 1) (cond b x.key best)
-  kept {best} w x l e true h = record {
-    among = (i, x, l, e, refl);
-    top = every_more (λ p. le p.key x.key ≡ true) ps i x l e (o.reflexive x.key) (λ k p m d. o.transitive p.key best x.key (w.top k p m d) (sym h));
-  }
-  kept {best} w x l e false h =
-      record { among = w.among; top = every_more (λ p. le p.key best ≡ true) ps i x l e (o.total best x.key (sym h)) w.top }
-
-  pub greatest_more : {best : K} → Greatest le ps i best → (x : Pull K) {best' : K} → i < length ps → x ≡ get_or ps i x → (b : Bool) → b ≡ le best x.key → best' ≡ cond b x.key best → Greatest le ps (i + 1) best'
-  greatest_more w x l e b h q = subst (Greatest le ps (i + 1)) (sym q) (kept w x l e b h)
+  pub top : All (λ q. is_gt (cmp q.key p.key) ≡ false) ps → Every (λ q. at_most cmp q.key p.key ≡ true) ps
+  top h i q l e =
+      at_most_from (cmp q.key p.key) (subst (λ z. is_gt (cmp z.key p.key) ≡ false) (sym e) (h i q l))

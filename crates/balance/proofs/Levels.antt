@@ -14,7 +14,7 @@ use Rattle.lines.proofs.Ring.{lin, ring, flat, from, ◌&◌}
 use Rattle.lines.proofs.Sums.{sum_add, sum_scale, sum_le}
 use Rattle.balance.specs.Balances.{above, upto, holds, Point, Answer}
 use Rattle.balance.specs.Levels.{priced, Cheapest}
-use Rattle.balance.specs.OrderLaws.{le_to, lt_to}
+use Rattle.balance.proofs.Orders.{le_to, lt_to}
 use Rattle.balance.specs.declared.balance.Balance.{Balance}
 use Rattle.balance.specs.declared.pull.Pull.{Pull}
 

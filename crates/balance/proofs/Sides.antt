@@ -1,10 +1,10 @@
 -- The two sides of a key: where they balance, and that only one key is the lowest of those.
 use Rattle.std.proofs.Common.{◌≡◌, Bool, true, false, cond, List, sum_by, sym, ap, ◌∙◌, arith}
-use Rattle.std.proofs.lemmas.Bool.{leb-true, le-leb, both_ways}
+use Rattle.std.proofs.lemmas.Bool.{false_from_ne_true, true_from_ne_false, leb-true, le-leb, both_ways}
 use Rattle.balance.specs.Balances.{Every, Among, Fair, above, upto, holds, LowestKey, Point}
 use Rattle.balance.specs.Orders.{Order}
 use Rattle.balance.specs.declared.pull.Pull.{Pull}
-use Rattle.balance.proofs.Sums.{at_le_sum, sum_mono, sum_zero, not_so, is_so, cond_up, cond_down}
+use Rattle.balance.proofs.Sums.{at_le_sum, sum_mono, sum_zero, cond_up, cond_down}
 
 module _ {K : Type 0} (le : K → K → Bool) where
   -- nothing lies above the greatest key
@@ -15,7 +15,7 @@ module _ {K : Type 0} (le : K → K → Bool) where
   -- nothing lies at or below a key under all keys
   pub fails_bottom : (ps : List (Pull K)) (u : K) → Every Fair ps → Among (λ p. le p.key u ≡ false) ps → Every (λ p. le p.key u ≡ false) ps → holds le ps u ≡ false
   fails_bottom ps u fair some off =
-      not_so (holds le ps u)
+      false_from_ne_true (holds le ps u)
       (λ y.
       let p = some.1 in
       let z = sum_zero (upto le u) ps (λ i q l e. ap (λ v. cond v q.over 0) (off i q l e)) in
@@ -24,7 +24,7 @@ module _ {K : Type 0} (le : K → K → Bool) where
   -- a key with no more keys at or below it than one that fails
   pub fails_with : (ps : List (Pull K)) (l u : K) → Every (λ p. le p.key u ≡ true → le p.key l ≡ true) ps → holds le ps l ≡ false → holds le ps u ≡ false
   fails_with ps l u on f =
-      not_so (holds le ps u)
+      false_from_ne_true (holds le ps u)
       (λ y.
       both_ways (holds le ps l) f
       (le-leb _ _
@@ -38,7 +38,7 @@ module _ {K : Type 0} (le : K → K → Bool) where
   pub only_point : Order le → (ps : List (Pull K)) (s t : K) → Point le ps s → LowestKey le ps t → t ≡ s
   only_point o ps s t p q =
       o.antisymmetric t s
-      (is_so (le t s) (λ h.
+      (true_from_ne_false (le t s) (λ h.
       let a = p.among in
       both_ways (holds le ps s) (ap (holds le ps) (sym a.4) ∙ q.lowest a.0 a.1 a.2 a.3 (ap (le t) a.4 ∙ h)) p.here))
-      (is_so (le s t) (λ h. both_ways (holds le ps t) (p.lowest t h) q.here))
+      (true_from_ne_false (le s t) (λ h. both_ways (holds le ps t) (p.lowest t h) q.here))

@@ -1,8 +1,6 @@
--- Sums, counts and facts over a list, element by element: `x ≡ get_or xs i x` says that x is what stands at place i.
-use Rattle.std.proofs.Common.{◌≡◌, ℕ, zero, suc, ◌+◌, ◌<◌, ◌≤◌, Bool, true, false, cond, List, [], ◌∷◌, length, get_or, take, sum_by, count_by, sym, refl, ap, ◌∙◌, subst, ⊎_elim, arith}
-use Rattle.std.proofs.lemmas.List.{get_or_default}
+-- Sums and counts over a list, element by element: `x ≡ get_or xs i x` says that x is what stands at place i.
+use Rattle.std.proofs.Common.{◌≡◌, ℕ, zero, suc, ◌+◌, ◌<◌, ◌≤◌, Bool, true, false, cond, List, [], ◌∷◌, length, get_or, take, sum_by, count_by, sym, refl, ap, ◌∙◌, arith}
 use Rattle.std.proofs.lemmas.List.Sums.{sum_by-cons, sum_by_more, get_or-le-sum_by}
-use Rattle.std.proofs.lemmas.Bool.{cases_lt}
 use Rattle.balance.specs.Balances.{Every}
 
 -- ---- sums
@@ -37,9 +35,6 @@ zero_sum f (y ∷ xs) z (suc i) x l e =
     zero_sum f xs (omega (arith, sum_by-cons f y xs)) i x (omega arith) e
 
 -- ---- counts
-pub count_more : {X : Type 0} (f : X → Bool) (xs : List X) (i : ℕ) (x : X) → i < length xs → x ≡ get_or xs i x → (b : Bool) → f x ≡ b → count_by f (take (i + 1) xs) ≡ count_by f (take i xs) + cond b 1 0
-count_more f xs i x l e b h = sum_more (λ y. cond (f y) 1 0) xs i x l e ∙ ap (λ v. count_by f (take i xs) + cond v 1 0) h
-
 cond_no : (a : Bool) → ◌≡◌ {A = ℕ} (cond a 1 0) 0 → a ≡ false
 cond_no true h = absurd (omega arith)
 cond_no false h = refl
@@ -47,20 +42,7 @@ cond_no false h = refl
 pub count_zero : {X : Type 0} (f : X → Bool) (xs : List X) → count_by f xs ≡ 0 → Every (λ x. f x ≡ false) xs
 count_zero f xs z i x l e = cond_no (f x) (zero_sum (λ y. cond (f y) 1 0) xs z i x l e)
 
--- ---- facts: one element more
-pub every_more : {X : Type 0} (P : X → Type 0) (xs : List X) (i : ℕ) (x : X) → i < length xs → x ≡ get_or xs i x → P x → ((k : ℕ) (y : X) → k < i → y ≡ get_or xs k y → P y) → (k : ℕ) (y : X) → k < i + 1 → y ≡ get_or xs k y → P y
-every_more P xs i x l e p h k y m d =
-    ⊎_elim (λ s. h k y s d) (λ s. let n : k ≡ i = omega arith in subst P (e ∙ get_or_default xs i x y l ∙ ap (λ j. get_or xs j y) (sym n) ∙ sym d) p) (cases_lt k i)
-
 -- ---- tests that imply one another
-pub not_so : (b : Bool) → (b ≡ true → ⊥) → b ≡ false
-not_so true h = absurd (h refl)
-not_so false h = refl
-
-pub is_so : (b : Bool) → (b ≡ false → ⊥) → b ≡ true
-is_so true h = refl
-is_so false h = absurd (h refl)
-
 pub cond_up : (a b : Bool) (n : ℕ) → (a ≡ true → b ≡ true) → cond a n 0 ≤ cond b n 0
 cond_up true b n h = omega (arith, ap (λ v. cond v n 0) (h refl))
 cond_up false b n h = omega arith

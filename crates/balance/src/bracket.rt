@@ -1,56 +1,50 @@
-//! The bracket that closes in on the balance point: below it a key that is known to fail, if there is
-//! one, at its top a key that is known to hold. What lies strictly between is still open.
-ghost use Rattle.std.specs.Prelude.{◌≡◌, ◌<◌, true, length};
-ghost use Rattle.balance.specs.Balances.{Every, Among};
+//! The bracket that closes in on the balance point.
+ghost use Rattle.std.specs.Prelude.{◌≡◌, false, length, MatchOption};
+ghost use Rattle.std.specs.List.{All, Contains};
+ghost use Rattle.std.specs.Ordering.{is_gt};
 ghost use Rattle.balance.specs.Brackets.{inside, Between};
+ghost use Rattle.balance.specs.Orders.{at_most};
 
 use crate::key::Key;
 use crate::pull::Pull;
 
-/// The greatest key.
-pub(crate) fn greatest<K: Key>(pulls: &[Pull<K>]) -> K
-    requires { 0 < length pulls.now }
-    ensures among { Among (λ p. p.key ≡ result) pulls.now }
-    ensures top { Every (λ p. K.Key.key_le p.key result ≡ true) pulls.now }
-{
-    let mut best = pulls[0].key;
-    for pull in pulls {
-        if best.at_most(&pull.key) {
-            best = pull.key;
-        }
-    }
-    best
+/// Two keys with the balance point above the one and at or below the other. What lies strictly
+/// between is still open.
+#[derive(Clone, Copy)]
+pub(crate) struct Bracket<K> {
+    /// A key that is known to fail, if there is one.
+    pub low: Option<K>,
+    /// A key that is known to hold.
+    pub high: K,
 }
 
-/// Whether a key lies strictly between low, if there is one, and high.
-fn is_inside<K: Key>(low: Option<K>, high: K, key: K) -> bool
-    ensures { result ≡ inside K.Key.key_le low high key }
-{
-    let above = match low {
-        Some(low) => !key.at_most(&low),
-        None => true,
-    };
-    above && !high.at_most(&key)
+impl<K: Key> Bracket<K> {
+    /// Whether a key lies strictly between.
+    fn has_inside(self, key: K) -> bool
+        ensures { result ≡ inside (at_most K.cmp) self.low self.high key }
+    {
+        self.low.is_none_or(|low| low < key) && key < self.high
+    }
+
+    /// The middle one, by place, of the keys strictly between; none where there is no such key.
+    pub(crate) fn middle(self, pulls: &[Pull<K>]) -> Option<K>
+        ensures { Between (at_most K.cmp) pulls.now self.low self.high result }
+    {
+        let count = pulls
+            .iter()
+            .filter(|pull| self.has_inside(pull.key))
+            .count();
+        pulls
+            .iter()
+            .filter(|pull| self.has_inside(pull.key))
+            .nth(count / 2)
+            .map(|pull| pull.key)
+    }
 }
 
-/// The middle one, by place, of the keys strictly between; none where there is no such key.
-pub(crate) fn between<K: Key>(pulls: &[Pull<K>], low: Option<K>, high: K) -> Option<K>
-    ensures { Between K.Key.key_le pulls.now low high result }
+/// The pull with the greatest key; none where there is no pull.
+pub(crate) fn greatest<K: Key>(pulls: &[Pull<K>]) -> Option<&Pull<K>>
+    ensures { MatchOption result (length pulls.now ≡ 0) (λ p. Contains pulls.now p.now × All (λ q. is_gt (K.cmp q.key p.now.key) ≡ false) pulls.now) }
 {
-    let mut count: usize = 0;
-    for pull in pulls {
-        if is_inside(low, high, pull.key) {
-            count += 1;
-        }
-    }
-    let mut left = count / 2;
-    for pick in pulls {
-        if is_inside(low, high, pick.key) {
-            if left == 0 {
-                return Some(pick.key);
-            }
-            left -= 1;
-        }
-    }
-    None
+    pulls.iter().max_by_key(|pull| pull.key)
 }

@@ -10,7 +10,6 @@ mod fair;
 mod key;
 mod point;
 mod pull;
-mod slope_key;
 #[cfg(test)]
 mod tests;
 mod whole_point;

@@ -12,30 +12,24 @@ fn pull(key: i32, under: u32, over: u32) -> Pull<i32> {
 
 /// The lowest key at which the pulls balance.
 fn lowest(pulls: &[Pull<i32>]) -> i32 {
-    match whole_balance_point(pulls) {
-        Some(balance) => balance.lowest,
-        None => NONE,
-    }
+    whole_balance_point(pulls).map_or(NONE, |balance| balance.lowest)
 }
 
 /// The two terms of the lowest slope at which the pulls balance.
 fn lowest_slope(pulls: &[Pull<Slope>]) -> (i32, i32) {
-    match balance_point(pulls) {
-        Some(balance) => (balance.lowest.rise, balance.lowest.run),
-        None => (0, 0),
-    }
+    balance_point(pulls).map_or((0, 0), |balance| {
+        (balance.lowest.rise, balance.lowest.run)
+    })
 }
 
 /// A slope that pulls evenly.
 fn pull_to(rise: i32, run: i32) -> Result<Pull<Slope>, Fail> {
-    match reduced(rise, run) {
-        Some(key) => Ok(Pull {
-            key,
-            under: 1,
-            over: 1,
-        }),
-        None => Err(Fail::new("no slope")),
-    }
+    let key = reduced(rise, run).ok_or_else(|| Fail::new("no slope"))?;
+    Ok(Pull {
+        key,
+        under: 1,
+        over: 1,
+    })
 }
 
 #[test]

@@ -5,6 +5,7 @@ use Rattle.shots.specs.Prices.{Fair as FairRule}
 use Rattle.shots.specs.declared.shot.Shot.{Shot}
 use Rattle.lines.specs.About.{About}
 use Rattle.lines.specs.Lines.{any, On}
+use Rattle.lines.specs.SlopeOrder.{slope_le}
 use Rattle.lines.specs.declared.line.Line.{Line}
 use Rattle.lines.specs.declared.slope.Slope.{Slope}
 use Rattle.racks.specs.Racks.{Holds}
@@ -15,7 +16,6 @@ use Rattle.theory.proofs.Descent.{turn_cheaper}
 use Rattle.theory.proofs.Members.{sum_in_nn}
 use Rattle.theory.proofs.Turning.{turn_lowest_cheapest, rise_term_nn, fall_term_nn}
 use Rattle.balance.specs.Balances.{Point as BalancePoint}
-use Rattle.balance.specs.Orders.{slope_le}
 use Rattle.balance.specs.declared.pull.Pull.{Pull}
 use Rattle.fit.specs.Points.{point, points}
 use Rattle.fit.specs.Turning.{Pulls, TurnedAbout, TurnedAt, Descends, LowestAt}

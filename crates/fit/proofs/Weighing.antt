@@ -7,6 +7,7 @@ use Rattle.std.proofs.lemmas.List.Sums.{sum_by-cons}
 use Rattle.std.proofs.lemmas.Bool.{leb-true, le-leb, cases_Bool}
 use Rattle.shots.specs.Prices.{Fair as FairPrices}
 use Rattle.shots.specs.declared.shot.Shot.{Shot}
+use Rattle.lines.specs.SlopeOrder.{slope_le}
 use Rattle.lines.specs.About.{Fits}
 use Rattle.lines.specs.Lines.{any, On}
 use Rattle.lines.specs.Sums.{sum_z}
@@ -18,8 +19,7 @@ use Rattle.theory.specs.Points.{Point, In}
 use Rattle.theory.specs.Turning.{run, num, Other, pull_p, pull_q, KeyBelow, p_above, q_up_to, Holds, Balanced}
 use Rattle.theory.proofs.Keys.{behind, p_zero, q_zero}
 use Rattle.balance.specs.Balances.{Usable, above, upto, holds, Point as BalancePoint}
-use Rattle.balance.specs.Orders.{slope_le}
-use Rattle.balance.specs.OrderLaws.{le_to, lt_to}
+use Rattle.balance.proofs.Orders.{le_to, lt_to}
 use Rattle.balance.specs.declared.pull.Pull.{Pull}
 use Rattle.fit.specs.Points.{point, points}
 use Rattle.fit.specs.Turning.{Pulls}

@@ -2,7 +2,7 @@
 use Rattle.std.proofs.Common.{true, false, arith}
 use Rattle.balance.proofs.Weighing.{weighed_more, weighed_all}
 use Rattle.balance.proofs.point.holds_at.Goals as goal
-use Rattle.balance.proofs.point.holds_at.Goals.{then-at_most, else-at_most}
+use Rattle.balance.proofs.point.holds_at.Goals.{then-is_upto, else-is_upto}
 
 pub loop-pull-preserved : goal.loop-pull-preserved
 loop-pull-preserved g c =
@@ -10,9 +10,9 @@ loop-pull-preserved g c =
     let l = c.loop-pull-test.true in
     let e = c.pull-item.is in
     let more = weighed_more c.loop-pull.invariant x l e (c.requires.fair c.loop-pull.pull-index x l e) in
-    elim c.if-at_most.branch [
-      | then-at_most w ↦ more true w.if-at_most.ensures (omega (arith, w.over-is)) (omega (arith, w.under-is))
-      | else-at_most w ↦ more false w.if-at_most.ensures (omega (arith, w.over-is)) (omega (arith, w.under-is))
+    elim c.if-is_upto.branch [
+      | then-is_upto w ↦ more true w.if-is_upto.ensures (omega (arith, w.over-is)) (omega (arith, w.under-is))
+      | else-is_upto w ↦ more false w.if-is_upto.ensures (omega (arith, w.over-is)) (omega (arith, w.under-is))
     ]
 
 pub returns : goal.returns
