@@ -69,19 +69,13 @@ fn turn_pull(z: Shot, shot: Shot, prices: (u8, u8)) -> Option<Pull<Slope>>
 fn pull_from(slow: Shot, fast: Shot, weight: u8, under: u8, over: u8) -> Option<Pull<Slope>>
     ensures { MatchOption result (fast.speed ≤ slow.speed) (λ p. PullFrom slow fast weight under over p) }
 {
-    let run = i32::from(fast.speed) - i32::from(slow.speed);
-    let rise = i32::from(fast.lead) - i32::from(slow.lead);
-    match reduced(rise, run) {
-        None => None,
-        Some(key) => {
-            let ahead = fast.speed - slow.speed;
-            Some(Pull {
-                key,
-                under: pull_price(weight, under, ahead),
-                over: pull_price(weight, over, ahead),
-            })
-        }
-    }
+    let key = Slope::between(slow, fast)?;
+    let ahead = fast.speed - slow.speed;
+    Some(Pull {
+        key,
+        under: pull_price(weight, under, ahead),
+        over: pull_price(weight, over, ahead),
+    })
 }
 
 // Weight times price times the difference in speed.
