@@ -1,9 +1,10 @@
 -- What a rack answers, seen in the mirror: flipping is its own inverse, and the answers to read, add
 -- and strike flip along with the shots.
-use Rattle.std.proofs.Common.{◌≡◌, ℕ, ◌<◌, true, cond, ltb, List, [], ◌∷◌, map, length, ℤ, neg_ℤ, nat_abs, Some, None, Ok, Err, Result, sym, refl, ap, ◌∙◌, arith}
+use Rattle.std.proofs.Common.{◌≡◌, ℕ, ◌<◌, true, false, cond, ltb, List, [], ◌∷◌, map, length, ℤ, negsuc, neg_ℤ, nat_abs, Some, None, Ok, Err, Result, sym, refl, ap, ◌∙◌, arith, w32, SFits}
 use lib.IntN.{neg_ℤ-neg_ℤ}
 use Rattle.std.proofs.lemmas.List.{length-map, get_or-map, map-append, map_push, take-map, drop-map}
-use Rattle.std.proofs.lemmas.Int.{ints}
+use Rattle.std.proofs.lemmas.Int.{ints, by_lt_z, wrapping_neg_is, int_wrap_fits}
+use Rattle.std.specs.Int.{int_wrapping_neg}
 use Rattle.std.specs.Option.{option_or}
 use Rattle.shots.specs.Ranges.{is_speed, is_lead, is_weight, is_stuff}
 use Rattle.shots.specs.Shots.{fault, Reads}
@@ -32,6 +33,22 @@ refused_flips xs p e h = (simp length-map h.0, h.1)
 pub struck_flips : (xs ys : List Shot) (p : ℤ) (r : Result (Unit {0}) Refusal) → Struck xs p r ys → Struck (map flipped xs) p r (map flipped ys)
 struck_flips xs ys p (Ok u) h = ((h.0.0, simp length-map h.0.1), ap (map flipped) h.1 ∙ simp (map-append, take-map, drop-map))
 struck_flips xs ys p (Err e) h = (simp length-map h.0, h.1, ap (map flipped) h.2)
+
+not_true : false ≡ true → ⊥
+not_true e = cc
+
+-- the lead that the rack below is given: the negated one, but for the one number that has no negation, which is no lead
+negated : (h m : ℤ) → m ≡ neg_ℤ h → (is_lead m ≡ is_lead h) × (is_lead h ≡ true → m ≡ neg_ℤ h)
+negated h m e = (grind (arith, ints), λ _. e)
+
+kept : (h m : ℤ) → h ≡ negsuc 2147483647 → m ≡ negsuc 2147483647 → (is_lead m ≡ is_lead h) × (is_lead h ≡ true → m ≡ neg_ℤ h)
+kept h m e k = (ap is_lead (k ∙ sym e), λ t. absurd (not_true (sym (ap is_lead e) ∙ t)))
+
+pub turned : (h m : ℤ) → SFits w32 h → m ≡ int_wrapping_neg w32 h → (is_lead m ≡ is_lead h) × (is_lead h ≡ true → m ≡ neg_ℤ h)
+turned h m f e =
+    by_lt_z (negsuc 2147483647) h
+    (λ lt. negated h m (e ∙ wrapping_neg_is w32 h f ∙ int_wrap_fits w32 (neg_ℤ h) (omega (arith, ints, lt))))
+    (λ le. let least : h ≡ negsuc 2147483647 = omega (arith, ints, le) in kept h m least (e ∙ ap (int_wrapping_neg w32) least))
 
 -- m is what the rack below is given for the lead h
 module _ (s h m w k : ℤ) (range : is_lead m ≡ is_lead h) (value : is_lead h ≡ true → m ≡ neg_ℤ h) where

@@ -1,6 +1,7 @@
 -- What the calls of a rack answer, and the shots that it holds after them.
 --   Holds       a shot is held at that place, counted from 0
---   Index       the answer to a try to take a place for an index below a count
+--   Index       the answer to a try to take a place for an index below a count: the index, or the refusal
+--               Place where it is none
 --   Read        the answer to a read: the shot at that place, or the refusal Place where there is none
 --   add_fault   the first refusal that an add earns, if it earns any
 --   Added       the answer to an add, and the shots after it: one more at the end, or the same
@@ -17,9 +18,9 @@ use Rattle.shots.specs.declared.refusal.Refusal.TheVariants.{Full, Place}
 abbrev pub Holds : List Shot → ℤ → Type 0
 Holds xs p = (pos 0 ≤ℤ p) × (p <ℤ pos (length xs))
 
-abbrev pub Index : ℤ → ℕ → Option ℕ → Type 0
-Index p n (Some i) = (p ≡ pos i) × (i < n)
-Index p n None = (pos 0 ≤ℤ p) × (p <ℤ pos n) → ⊥
+abbrev pub Index : ℤ → ℕ → Result ℕ Refusal → Type 0
+Index p n (Ok i) = (p ≡ pos i) × (i < n)
+Index p n (Err e) = ((pos 0 ≤ℤ p) × (p <ℤ pos n) → ⊥) × (e ≡ Place)
 
 abbrev pub Read : List Shot → ℤ → Result Shot Refusal → Type 0
 Read xs p (Ok z) = Holds xs p × (z ≡ slice_index_or xs (unsigned_abs p) z)

@@ -1,6 +1,5 @@
 //! A layer that shows another rack with each lead negated.
-ghost use Rattle.std.specs.Prelude.{◌≡◌, true, List, map, neg_ℤ};
-ghost use Rattle.shots.specs.Ranges.{is_lead};
+ghost use Rattle.std.specs.Prelude.{◌≡◌, List, map};
 ghost use Rattle.shots.specs.declared.shot.Shot.{Shot};
 ghost use Rattle.racks.specs.Flips.{flipped};
 ghost use Rattle.racks.specs.RackLaws.{mirror_bounded};
@@ -45,14 +44,13 @@ impl<R: Rack> Rack for Mirror<R> {
     }
 
     fn read(&self, place: i32) -> Result<Shot, Refusal> {
-        match self.rack.read(place) {
-            Ok(shot) => Ok(flip(shot)),
-            Err(refusal) => Err(refusal),
-        }
+        self.rack.read(place).map(flip)
     }
 
     fn add(&mut self, speed: i32, lead: i32, weight: i32, stuff: i32) -> Result<(), Refusal> {
-        self.rack.add(speed, negated(lead), weight, stuff)
+        // `i32::MIN`, which has no negation, stays; it is out of range either way, so that the rack
+        // below refuses it in its turn
+        self.rack.add(speed, lead.wrapping_neg(), weight, stuff)
     }
 
     fn strike(&mut self, place: i32) -> Result<(), Refusal> {
@@ -61,22 +59,9 @@ impl<R: Rack> Rack for Mirror<R> {
 }
 
 // The shot with its lead negated.
-fn flip(shot: Shot) -> Shot
+fn flip(mut shot: Shot) -> Shot
     ensures { result ≡ flipped shot }
 {
-    Shot {
-        speed: shot.speed,
-        lead: -shot.lead,
-        weight: shot.weight,
-        stuff: shot.stuff,
-    }
-}
-
-// The lead negated. `i32::MIN` has no negation and stays; it is out of range either way, so that
-// the rack below refuses it in its turn.
-fn negated(lead: i32) -> i32
-    ensures range { is_lead result ≡ is_lead lead }
-    ensures value { is_lead lead ≡ true → result ≡ neg_ℤ lead }
-{
-    if lead == i32::MIN { lead } else { -lead }
+    shot.lead = -shot.lead;
+    shot
 }

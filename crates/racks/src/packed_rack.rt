@@ -6,7 +6,7 @@ ghost use Rattle.racks.specs.Racks.{Added, Struck};
 ghost use Rattle.racks.specs.RackLaws.{packed_bounded};
 ghost use Rattle.racks.specs.Packs.{shot_of_bytes, shots_of_bytes, places, Stored, Closed};
 
-use crate::place::index_below;
+use crate::place::index_of;
 use crate::rack::{MOST_SHOTS, Rack};
 use shots::{Refusal, Shot};
 
@@ -51,10 +51,8 @@ impl Rack for PackedRack<'_> {
     }
 
     fn read(&self, place: i32) -> Result<Shot, Refusal> {
-        match index_below(place, self.count) {
-            Some(index) => Ok(shot_in(&self.bytes[6 * index..6 * index + 6])),
-            None => Err(Refusal::Place),
-        }
+        let index = index_of(place, self.count)?;
+        Ok(shot_in(&self.bytes[6 * index..6 * index + 6]))
     }
 
     fn add(&mut self, speed: i32, lead: i32, weight: i32, stuff: i32) -> Result<(), Refusal>
@@ -67,10 +65,9 @@ impl Rack for PackedRack<'_> {
         if self.is_full() {
             return Err(Refusal::Full);
         }
-        let PackedRack { bytes, count } = self;
-        let start = 6 * *count;
-        bytes[start..start + 6].copy_from_slice(&shot.image());
-        *count += 1;
+        let start = 6 * self.count;
+        self.bytes[start..start + 6].copy_from_slice(&shot.image());
+        self.count += 1;
         Ok(())
     }
 
@@ -80,15 +77,11 @@ impl Rack for PackedRack<'_> {
         ensures memory { Closed self.old.count self.old.bytes.now place result self.new.bytes.now }
         ensures lender { self.new.bytes.ghost_name ≡ self.old.bytes.ghost_name }
     {
-        match index_below(place, self.count) {
-            Some(index) => {
-                let PackedRack { bytes, count } = self;
-                bytes.copy_within(6 * (index + 1)..6 * *count, 6 * index);
-                *count -= 1;
-                Ok(())
-            }
-            None => Err(Refusal::Place),
-        }
+        let index = index_of(place, self.count)?;
+        self.bytes
+            .copy_within(6 * (index + 1)..6 * self.count, 6 * index);
+        self.count -= 1;
+        Ok(())
     }
 }
 

@@ -1,13 +1,14 @@
 //! Places as they are given in calls.
 ghost use Rattle.racks.specs.Racks.{Index};
 
-/// The place as an index below `count`; none where it is none.
-pub(crate) fn index_below(place: i32, count: usize) -> Option<usize>
+use shots::Refusal;
+
+/// The place as an index below `count`; refused by `Place` where it is none.
+pub(crate) fn index_of(place: i32, count: usize) -> Result<usize, Refusal>
     ensures { Index place count result }
 {
-    if place < 0 {
-        return None;
-    }
-    let index = place as usize;
-    if index < count { Some(index) } else { None }
+    usize::try_from(place)
+        .ok()
+        .filter(|index| *index < count)
+        .ok_or(Refusal::Place)
 }

@@ -3,6 +3,7 @@ ghost use Rattle.std.specs.Prelude.{◌≡◌, ℕ, ◌≤◌, List, length};
 ghost use Rattle.racks.specs.Racks.{Read, Added, Struck};
 ghost use Rattle.shots.specs.declared.shot.Shot.{Shot};
 
+use crate::iter::Iter;
 use shots::{Refusal, Shot};
 
 /// The most shots that any rack has room for.
@@ -40,4 +41,12 @@ pub trait Rack {
     fn strike(&mut self, place: i32) -> Result<(), Refusal>
         ensures struck { Struck (held self.old) place result (held self.new) }
         ensures room { capacity self.new ≡ capacity self.old };
+
+    /// The shots in order of place, from place 0 on.
+    final fn iter(&self) -> Iter<'_, Self>
+        ensures shots { result ≡ held self.now }
+        ensures few { length result ≤ 512 }
+    {
+        Iter::over(self)
+    }
 }

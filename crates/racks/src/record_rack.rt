@@ -4,7 +4,7 @@ ghost use Rattle.racks.specs.Racks.{Added, Struck};
 ghost use Rattle.racks.specs.RackLaws.{records_bounded};
 ghost use Rattle.racks.specs.Records.{room, Stored, Closed};
 
-use crate::place::index_below;
+use crate::place::index_of;
 use crate::rack::{MOST_SHOTS, Rack};
 use shots::{Refusal, Shot};
 
@@ -48,10 +48,8 @@ impl Rack for RecordRack<'_> {
     }
 
     fn read(&self, place: i32) -> Result<Shot, Refusal> {
-        match index_below(place, self.count) {
-            Some(index) => Ok(self.records[index]),
-            None => Err(Refusal::Place),
-        }
+        let index = index_of(place, self.count)?;
+        Ok(self.records[index])
     }
 
     fn add(&mut self, speed: i32, lead: i32, weight: i32, stuff: i32) -> Result<(), Refusal>
@@ -64,9 +62,8 @@ impl Rack for RecordRack<'_> {
         if self.is_full() {
             return Err(Refusal::Full);
         }
-        let RecordRack { records, count } = self;
-        records[*count] = shot;
-        *count += 1;
+        self.records[self.count] = shot;
+        self.count += 1;
         Ok(())
     }
 
@@ -76,14 +73,9 @@ impl Rack for RecordRack<'_> {
         ensures memory { Closed self.old.count self.old.records.now place result self.new.records.now }
         ensures lender { self.new.records.ghost_name ≡ self.old.records.ghost_name }
     {
-        match index_below(place, self.count) {
-            Some(index) => {
-                let RecordRack { records, count } = self;
-                records.copy_within(index + 1..*count, index);
-                *count -= 1;
-                Ok(())
-            }
-            None => Err(Refusal::Place),
-        }
+        let index = index_of(place, self.count)?;
+        self.records.copy_within(index + 1..self.count, index);
+        self.count -= 1;
+        Ok(())
     }
 }

@@ -1,4 +1,5 @@
-//! Capacities at their ends, memory byte by byte, refusals in order, and mirrors over mirrors.
+//! Capacities at their ends, memory byte by byte, refusals in order, going over the shots, and mirrors
+//! over mirrors.
 ghost use Rattle.std.specs.Prelude.{◌≡◌, ◌≤◌, [], ◌∷◌, ◌++◌, length, drop};
 
 use crate::{Mirror, PackedRack, Rack, RecordRack};
@@ -157,4 +158,39 @@ fn mirrors_over_each_rack(rt: HostRuntime) -> Result<(), Fail> {
     mirrors(&rt, &mut PackedRack::open(&mut bytes))?;
     let mut records = [Shot::new(9, 9, 9, 9)?; 3];
     mirrors(&rt, &mut RecordRack::open(&mut records))
+}
+
+// A rack with room for three shots or more, and none held.
+fn goes_over<R: Rack>(rt: &impl Abort, rack: &mut R) -> Result<(), Fail> {
+    assert_eq!(rt; rack.iter().next(), None);
+    add_three(rack)?;
+    let mut shots = rack.iter();
+    assert_eq!(rt; shots.next(), Some(Shot::new(258, -2, 10, 3)?));
+    assert_eq!(rt; shots.next(), Some(Shot::new(1, 0, 1, 0)?));
+    assert_eq!(rt; shots.next(), Some(Shot::new(4000, 8000, 100, 15)?));
+    assert_eq!(rt; shots.next(), None);
+    assert_eq!(rt; shots.next(), None);
+    assert_eq!(rt; rack.iter().count(), 3);
+    Ok(())
+}
+
+#[test]
+fn each_rack_is_gone_over(rt: HostRuntime) -> Result<(), Fail> {
+    goes_over(&rt, &mut PackedRack::open(&mut [7; 18]))?;
+    goes_over(&rt, &mut Mirror::over(PackedRack::open(&mut [7; 18])))?;
+    let mut records = [Shot::new(9, 9, 9, 9)?; 3];
+    goes_over(&rt, &mut RecordRack::open(&mut records))?;
+    goes_over(&rt, &mut Mirror::over(RecordRack::open(&mut records)))?;
+    let mut rack = RecordRack::open(&mut records);
+    goes_over(&rt, &mut &mut rack)
+}
+
+#[test]
+fn a_full_rack_is_gone_over(rt: HostRuntime) {
+    let mut bytes = [7; 3084];
+    let mut rack = PackedRack::open(&mut bytes);
+    for _ in 0..600 {
+        let _ = rack.add(1, 0, 1, 0);
+    }
+    assert_eq!(rt; rack.iter().count(), 512);
 }
