@@ -1,5 +1,5 @@
 -- What one shot adds to the price of a line, and what all of them do.
-use Rattle.std.proofs.Common.{◌≡◌, ℕ, ◌*◌, ◌≤◌, List, [], ◌∷◌, length, ℤ, pos, negsuc, ◌+ℤ◌, ◌-ℤ◌, ◌*ℤ◌, neg_ℤ, nat_abs, ◌≤ℤ◌, sym, refl, ap, ◌∙◌, subst, mul-le-mul, mul-one, arith, w32, to_z, of_z}
+use Rattle.std.proofs.Common.{◌≡◌, ℕ, ◌*◌, ◌≤◌, List, [], ◌∷◌, length, ℤ, pos, negsuc, ◌+ℤ◌, ◌-ℤ◌, ◌*ℤ◌, neg_ℤ, nat_abs, ◌≤ℤ◌, sym, refl, ap, ◌∙◌, mul-le-mul, mul-one, arith}
 use borrow.Author.Differences.{ints}
 use Rattle.std.proofs.lemmas.Int.{by_lt_z}
 use Rattle.shots.specs.Prices.{Fair}
@@ -83,14 +83,12 @@ pub record Shared (tariff : ℤ → ℕ × ℕ) (l : Line) (z : Shot) (r : ℤ) 
   pub is : r ≡ paid tariff l z
   pub size : Sized 383984000000 r
 
-pub shared : (tariff : ℤ → ℕ × ℕ) (l : Line) (z : Shot) (m : ℤ) (p : ℕ × ℕ) (r : ℤ) → Fair tariff → m ≡ pos z.stuff → p ≡ tariff (to_z w32 (of_z w32 m)) → r ≡ share_of l z p.0 p.1 → pos 0 ≤ℤ r → (p.0 ≤ 20 → p.1 ≤ 20 → r ≤ℤ pos 383984000000) → Shared tariff l z r
+pub shared : (tariff : ℤ → ℕ × ℕ) (l : Line) (z : Shot) (p : ℕ × ℕ) (r : ℤ) → p ≡ tariff (pos z.stuff) → (p.0 ≤ 20) × (p.1 ≤ 20) → r ≡ share_of l z p.0 p.1 → (pos 0 ≤ℤ r) × (p.0 ≤ 20 → p.1 ≤ 20 → r ≤ℤ pos 383984000000) → Shared tariff l z r
 unfolding paid
-shared tariff l z m p r fair em ep er low high =
-    let k : to_z w32 (of_z w32 m) ≡ pos z.stuff = omega (arith, ints) in
-    let q : p ≡ tariff (pos z.stuff) = ep ∙ ap tariff k in
-    let late : p.0 ≤ 20 = subst (λ x. x.0 ≤ 20) (sym q) (fair.late (pos z.stuff)).1 in
-    let early : p.1 ≤ 20 = subst (λ x. x.1 ≤ 20) (sym q) (fair.early (pos z.stuff)).1 in
-    record { is = er ∙ ap (λ x. share_of l z x.0 x.1) q; size = record { low = omega (arith, ints); high = high late early } }
+shared tariff l z p r ep low er b = record {
+  is = er ∙ ap (λ x. share_of l z x.0 x.1) ep;
+  size = record { low = omega (arith, ints, b.0); high = b.1 low.0 low.1 };
+}
 
 -- T of shots is the total of their points
 paid_point : (tariff : ℤ → ℕ × ℕ) (l : Line) (z : Shot) → paid tariff l z ≡ paid-at (any l) (point tariff z)

@@ -1,5 +1,5 @@
 -- The key A·h - B·s of a shot in 32 bits, for a slope in range: it never wraps.
-use Rattle.std.proofs.Common.{◌≡◌, ℕ, false, List, ℤ, pos, negsuc, ◌-ℤ◌, ◌*ℤ◌, ap, ◌∙◌, subst, arith, w16, w32, SFits}
+use Rattle.std.proofs.Common.{◌≡◌, ℕ, false, List, ℤ, pos, negsuc, ◌-ℤ◌, ◌*ℤ◌, subst, arith, w16, w32, SFits}
 use lib.Signed.{lt_z}
 use Rattle.std.proofs.lemmas.Int.{ints}
 use Rattle.shots.specs.declared.shot.Shot.{Shot}
@@ -7,7 +7,7 @@ use Rattle.lines.proofs.Sizes.{Sized, sized_mul, back, cross}
 use Rattle.balance.specs.declared.pull.Pull.{Pull}
 use Rattle.theory.specs.Points.{Point}
 use Rattle.theory.specs.Offsets.{BalancedOffset}
-use Rattle.fit.specs.Offsets.{IsSlope, pull_at, offset_pull}
+use Rattle.fit.specs.Offsets.{IsSlope}
 
 -- x and y are the shot's lead and speed as they come from `i32::from`
 pub record Keyed (a b : ℤ) (z : Shot) (x y : ℤ) : Type 0 where
@@ -42,12 +42,6 @@ keyed {a} {b} z {x} {y} s e f =
 -- ---- pulls and answers as they come out of bits
 pub same_pull : {k j : ℤ} {u v s t : ℕ} → k ≡ j → u ≡ s → v ≡ t → ◌≡◌ {A = Pull ℤ} (record { key = k; under = u; over = v }) (record { key = j; under = s; over = t })
 same_pull e f g = λ i. record { key = e i; under = f i; over = g i }
-
--- the prices were asked for by the shot's stuff
-pub asked_pull : (tariff : ℤ → ℕ × ℕ) (a b : ℤ) (z : Shot) (m : ℤ) (p : ℕ × ℕ) (q : Pull ℤ) → m ≡ pos z.stuff → p ≡ tariff (back w32 m) → q ≡ pull_at a b z p → q ≡ offset_pull tariff a b z
-asked_pull tariff a b z m p q em ep eq =
-    let k : back w32 m ≡ pos z.stuff = omega (arith, ints) in
-    eq ∙ ap (pull_at a b z) (ep ∙ ap tariff k)
 
 pub same_offset : {a b c j k m : ℤ} {xs : List Point} → j ≡ a → k ≡ b → m ≡ c → BalancedOffset j k xs m → BalancedOffset a b xs c
 same_offset {a} {b} {c} {j} {k} {m} {xs} ea eb ec w =

@@ -1,7 +1,6 @@
 pub mod Running
 pub mod Adding
-pub mod Ways
-pub mod Told
+pub mod Lifting
 pub mod Held
 pub mod Tests
 pub mod Speeds
@@ -11,3 +10,4 @@ pub mod Filled
 pub mod Pulling
 pub mod Swings
 pub mod Weighing
+pub mod Laying

@@ -15,7 +15,8 @@ use Rattle.theory.specs.Offsets.{offset, u_above, v_up_to, HoldsAt, BalancedOffs
 use Rattle.theory.proofs.Offsets.{balanced_lowest_cheapest}
 use Rattle.fit.specs.Points.{point_at, point, points}
 use Rattle.fit.specs.Offsets.{IsSlope, pull_at, offset_pull, LowestBest}
-use Rattle.fit.proofs.Tests.{Source, source, in_image, not_both}
+use Rattle.fit.proofs.Held.{not_both}
+use Rattle.fit.proofs.Tests.{Source, source, in_image}
 
 -- where an element of a list of images comes from
 pub source_at : {S T : Type 0} (f : S → T) (xs : List S) (i : ℕ) (y : T) → i < length (map f xs) → y ≡ get_or (map f xs) i y → Source f xs y

@@ -1,6 +1,6 @@
 -- The pulls of shots about a shot z: their list as it grows, where each comes from, and that their prices are in range.
-use Rattle.std.proofs.Common.{◌≡◌, ℕ, zero, suc, ◌+◌, ◌-◌, ◌*◌, ◌<◌, ◌≤◌, List, [], ◌∷◌, ◌++◌, length, get_or, take, set, ℤ, pos, ◌*ℤ◌, ◌≤ℤ◌, sym, refl, ap, ◌∙◌, subst, subst₂, inl, inr, mul-le-mul, arith, w32, to_z, of_z}
-use Rattle.std.proofs.lemmas.List.{take_more, take_more_set}
+use Rattle.std.proofs.Common.{◌≡◌, ℕ, zero, suc, ◌+◌, ◌-◌, ◌*◌, ◌<◌, ◌≤◌, List, [], ◌∷◌, ◌++◌, length, get_or, take, set, ℤ, pos, ◌*ℤ◌, ◌≤ℤ◌, sym, refl, ap, ◌∙◌, subst, inl, inr, mul-le-mul, arith}
+use Rattle.std.proofs.lemmas.List.{take_more_set}
 use Rattle.std.proofs.lemmas.Int.{ints}
 use Rattle.shots.specs.Prices.{Fair as FairPrices}
 use Rattle.shots.specs.declared.shot.Shot.{Shot}
@@ -31,13 +31,9 @@ module _ (tariff : ℤ → ℕ × ℕ) (z : Shot) where
   pulls_push (x ∷ xs) ps y q g (inr (p, qs, eq, a, r)) =
       inr (p, qs ++ q ∷ [], ap (λ l. l ++ q ∷ []) eq, a, pulls_push xs qs y q g r)
 
-  pub pulls_same : (xs : List Shot) (i : ℕ) (y : Shot) (ps : List (Pull Slope)) → i < length xs → y ≡ get_or xs i y → y.speed ≡ z.speed → Pulls tariff z (take i xs) ps → Pulls tariff z (take (i + 1) xs) ps
-  pulls_same xs i y ps h e s k =
-      subst (λ l. Pulls tariff z l ps) (sym (take_more xs i y h ∙ ap (λ x. take i xs ++ x ∷ []) (sym e))) (pulls_skip (take i xs) ps y s k)
-
-  pub pulls_more : (xs : List Shot) (i : ℕ) (y : Shot) (ps : List (Pull Slope)) (n : ℕ) (q : Pull Slope) → i < length xs → n < length ps → y ≡ get_or xs i y → PullAt z y (tariff (pos y.stuff)) q → Pulls tariff z (take i xs) (take n ps) → Pulls tariff z (take (i + 1) xs) (take (n + 1) (set ps n q))
-  pulls_more xs i y ps n q h g e a k =
-      subst₂ (Pulls tariff z) (sym (take_more xs i y h ∙ ap (λ x. take i xs ++ x ∷ []) (sym e))) (sym (take_more_set ps n q g)) (pulls_push (take i xs) (take n ps) y q a k)
+  pub pulls_more : (xs : List Shot) (y : Shot) (ps : List (Pull Slope)) (n : ℕ) (q : Pull Slope) → n < length ps → PullAt z y (tariff (pos y.stuff)) q → Pulls tariff z xs (take n ps) → Pulls tariff z (xs ++ y ∷ []) (take (n + 1) (set ps n q))
+  pulls_more xs y ps n q g a k =
+      subst (Pulls tariff z (xs ++ y ∷ [])) (sym (take_more_set ps n q g)) (pulls_push xs (take n ps) y q a k)
 
 -- ---- what a pull is worth
 pub record Pulled (z y : Point) (p : Pull Slope) : Type 0 where
@@ -145,9 +141,3 @@ pub price_is : (slow fast : Shot) (k n : ℕ) → slow.speed ≤ fast.speed → 
 price_is slow fast k n h e =
     let d : pos (fast.speed - slow.speed) ≡ run_of slow fast = omega (arith, ints) in
     ap pos e ∙ ap (λ x. pos k *ℤ x) d
-
--- ---- a pull at the prices that were asked of the rule for the shot's stuff
-pub pull_asked : (tariff : ℤ → ℕ × ℕ) (z y : Shot) (m : ℤ) (prices : ℕ × ℕ) (p : Pull Slope) → m ≡ pos y.stuff → prices ≡ tariff (to_z w32 (of_z w32 m)) → PullAt z y prices p → PullAt z y (tariff (pos y.stuff)) p
-pull_asked tariff z y m prices p em ep g =
-    let k : to_z w32 (of_z w32 m) ≡ pos y.stuff = omega (arith, ints) in
-    subst (λ x. PullAt z y x p) (ep ∙ ap tariff k) g

@@ -1,16 +1,27 @@
 -- Two speeds on a line, by places and as points.
-use Rattle.std.proofs.Common.{◌≡◌, ℕ, ◌<◌, Bool, List, ℤ, pos, Decides, sym, ap, ◌∙◌, subst, ⊎_elim, arith}
+use Rattle.std.proofs.Common.{◌≡◌, ℕ, ◌<◌, Bool, true, false, List, length, ℤ, pos, Some, None, Option, MatchOption, Decides, sym, refl, ap, ◌∙◌, subst, ⊎_elim, arith}
 use Rattle.std.proofs.lemmas.Int.{ints}
 use Rattle.std.proofs.lemmas.Bool.{cases_lt}
+use Rattle.std.specs.Bool.{MatchBool}
+use Rattle.std.specs.List.{AllWithin, HoldsAt}
 use Rattle.shots.specs.declared.shot.Shot.{Shot}
 use Rattle.lines.specs.Lines.{any, On}
 use Rattle.lines.specs.declared.line.Line.{Line}
 use Rattle.theory.specs.Points.{Point, Spans, On as OnPoint}
 use Rattle.fit.specs.Points.{point, points}
-use Rattle.fit.specs.Spanning.{Member, SpeedOn, OnOther, TwoSpeeds, SpansAll}
+use Rattle.fit.specs.Spanning.{Member, NoneOn, SpeedOn, OnOther, TwoSpeeds, SpansAll}
+use Rattle.fit.proofs.Held.{each_within, one_within, not_both}
 use Rattle.fit.proofs.Tests.{source, in_image}
 
 module _ (l : Line) (xs : List Shot) where
+  -- whether some place has a shot on the line at another speed
+  pub other_on : (v : ℕ) (r : Bool) → MatchBool r ((k : ℕ) × (k < length xs) × HoldsAt (λ y. On l y × (y.speed ≡ v → ⊥)) xs k) (AllWithin (λ y. On l y × (y.speed ≡ v → ⊥) → ⊥) xs 0 (length xs)) → Decides r (OnOther l xs v)
+  other_on v true h =
+      let x = one_within (λ y. On l y × (y.speed ≡ v → ⊥)) xs h.0 h.1 h.2 in
+      (λ _. record { shot = x.0; member = record { place = h.0; inside = h.1; is = x.1 }; on = x.2.0; other = x.2.1 }, λ _. refl)
+  other_on v false h =
+      (λ e. absurd (not_both false e refl), λ o. absurd (each_within (λ y. On l y × (y.speed ≡ v → ⊥) → ⊥) xs (length xs) h o.member.place o.shot o.member.inside o.member.is (o.on, o.other)))
+
   -- a shot of some speed on the line, and one of another
   pub two_from : (v : ℕ) → SpeedOn l xs v → OnOther l xs v → TwoSpeeds l xs
   two_from v a b = record {
@@ -69,3 +80,8 @@ module _ (l : Line) (xs : List Shot) where
 
   pub spans_all : (r : Bool) → Decides r (TwoSpeeds l xs) → SpansAll l xs r
   spans_all r d tariff = (λ e. two_points tariff (d.0 e), λ s. d.1 (points_two tariff s))
+
+  -- whether a second speed is on the line, where a first may be
+  pub two_speeds : (o : Option ℕ) (r : Bool) → MatchOption o (NoneOn l xs) (λ v. SpeedOn l xs v) → MatchOption o (r ≡ false) (λ v. Decides r (OnOther l xs v)) → Decides r (TwoSpeeds l xs)
+  two_speeds None r none e = (λ t. absurd (not_both r t e), λ t. absurd (none t.one t.one_in t.one_on))
+  two_speeds (Some v) r a d = (λ e. two_from v a (d.0 e), λ t. d.1 (one_other v t))

@@ -1,5 +1,5 @@
 -- The test over shots is the test over their points, so it decides whether a line is cheapest.
-use Rattle.std.proofs.Common.{◌≡◌, ℕ, zero, suc, ◌<◌, Bool, true, false, List, [], ◌∷◌, map, length, get_or, ℤ, pos, ◌≤ℤ◌, sym, refl, subst, inl, inr, ⊎_elim, arith}
+use Rattle.std.proofs.Common.{◌≡◌, ℕ, zero, suc, ◌<◌, true, List, [], ◌∷◌, map, length, get_or, ℤ, pos, ◌≤ℤ◌, sym, refl, subst, inl, inr, ⊎_elim, arith}
 use lib.Signed.{lt_z}
 use Rattle.std.proofs.lemmas.Int.{ints, by_lt_z}
 use Rattle.shots.specs.declared.shot.Shot.{Shot}
@@ -10,11 +10,7 @@ use Rattle.theory.specs.Rates.{rise_of, fall_of, Failing, Passing, Passes}
 use Rattle.theory.proofs.Descent.{test_exact}
 use Rattle.fit.specs.Points.{point, points}
 use Rattle.fit.specs.Testing.{Fails, First}
-use Rattle.fit.proofs.Ways.{is_lt}
-
-pub not_both : (b : Bool) → b ≡ true → b ≡ false → ⊥
-not_both true p q = let n : ◌≡◌ {A = ℕ} 0 1 = cc in omega arith
-not_both false p q = let n : ◌≡◌ {A = ℕ} 0 1 = cc in omega arith
+use Rattle.fit.proofs.Lifting.{is_lt}
 
 -- an element of a list of images, and where it comes from
 pub record Source {S T : Type 0} (f : S → T) (xs : List S) (y : T) : Type 0 where

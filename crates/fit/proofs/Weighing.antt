@@ -24,8 +24,9 @@ use Rattle.balance.specs.declared.pull.Pull.{Pull}
 use Rattle.fit.specs.Points.{point, points}
 use Rattle.fit.specs.Turning.{Pulls}
 use Rattle.fit.proofs.Pulling.{Pulled, pulled, fits, Origin, origin, pull_of, all_fair, no_pulls}
-use Rattle.fit.proofs.Tests.{not_both}
-use Rattle.fit.proofs.Ways.{is_lt, not_lt}
+use Rattle.fit.proofs.Held.{not_both}
+use Rattle.fit.proofs.Tests.{}
+use Rattle.fit.proofs.Lifting.{is_lt, not_lt}
 
 -- ---- keys against a slope: k is the key m / n, and t is the slope b / a
 positive : {a b : ℤ} → pos 0 <ℤ a → pos 0 <ℤ b → pos 0 <ℤ (a *ℤ b)

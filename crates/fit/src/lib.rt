@@ -4,13 +4,15 @@
 
 mod first;
 mod mounting;
-mod place;
+mod on;
+mod prices;
 mod rates;
 mod spanning;
 mod terms;
 mod testing;
 mod totals;
 mod turning;
+mod ways;
 
 pub use first::first_line;
 pub use mounting::offset;

@@ -4,9 +4,9 @@ ghost use Rattle.theory.specs.Offsets.{BalancedOffset};
 ghost use Rattle.fit.specs.Points.{points};
 ghost use Rattle.fit.specs.Offsets.{IsSlope, pull_at, OffsetOf, OffsetBest};
 
-use crate::place::shot_at;
+use crate::prices::prices_of;
 use balance::{Pull, whole_balance_point};
-use racks::{Rack, is_empty};
+use racks::{MOST_SHOTS, Rack, is_empty};
 use shots::{PriceRule, Refusal, Shot};
 
 /// The offset C for a known slope B/A: the balance point of the keys A·h - B·s of all held shots,
@@ -33,18 +33,15 @@ fn balanced<R: Rack, P: PriceRule>(rack: &R, rule: &P, a: i32, b: i32) -> i32
     requires some { 0 < length (R.Rack.held rack.now) }
     ensures { BalancedOffset a b (points (P.PriceRule.tariff rule.now) (R.Rack.held rack.now)) result }
 {
-    let count = rack.count();
     let mut pulls = [Pull {
-        key: 0i32,
+        key: 0,
         under: 1,
         over: 1,
-    }; 512];
-    for place in 0..count {
-        let shot = shot_at(rack, place);
-        let prices = rule.prices(i32::from(shot.stuff));
-        pulls[place] = offset_pull(a, b, shot, prices);
+    }; MOST_SHOTS];
+    for (place, shot) in rack.iter().enumerate() {
+        pulls[place] = offset_pull(a, b, shot, prices_of(rule, shot));
     }
-    match whole_balance_point(&pulls[..count]) {
+    match whole_balance_point(&pulls[..rack.count()]) {
         Some(balance) => balance.lowest,
         None => unreachable(),
     }

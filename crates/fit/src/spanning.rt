@@ -3,7 +3,7 @@ ghost use Rattle.std.specs.Prelude.{◌≡◌, Decides, MatchOption, ◌≢◌};
 ghost use Rattle.lines.specs.Lines.{On};
 ghost use Rattle.fit.specs.Spanning.{OnOther, NoneOn, SpeedOn, TwoSpeeds, SpansAll};
 
-use crate::place::shot_at;
+use crate::on::is_on;
 use lines::Line;
 use racks::Rack;
 use shots::Shot;
@@ -13,48 +13,27 @@ pub fn has_two_speeds<R: Rack>(rack: &R, line: Line) -> bool
     ensures shots { Decides result (TwoSpeeds line (R.Rack.held rack.now)) }
     ensures points { SpansAll line (R.Rack.held rack.now) result }
 {
-    match speed_on(rack, line) {
-        Some(speed) => is_other_on(rack, line, speed),
-        None => false,
-    }
+    speed_on(rack, line).is_some_and(|speed| is_other_on(rack, line, speed))
 }
 
 // The speed of the first shot on the line.
 fn speed_on<R: Rack>(rack: &R, line: Line) -> Option<u16>
     ensures { MatchOption result (NoneOn line (R.Rack.held rack.now)) (λ v. SpeedOn line (R.Rack.held rack.now) v) }
 {
-    for place in 0..rack.count() {
-        let shot = shot_at(rack, place);
-        if is_on(line, shot) {
-            return Some(shot.speed);
-        }
-    }
-    None
+    let shot = rack.iter().find(|shot| is_on(line, *shot))?;
+    Some(shot.speed)
 }
 
 // Whether a shot of another speed is on the line.
 fn is_other_on<R: Rack>(rack: &R, line: Line, speed: u16) -> bool
     ensures { Decides result (OnOther line (R.Rack.held rack.now) speed) }
 {
-    for place in 0..rack.count() {
-        let shot = shot_at(rack, place);
-        if is_on_at_other(line, shot, speed) {
-            return true;
-        }
-    }
-    false
-}
-
-// Whether a shot is on the line.
-fn is_on(line: Line, shot: Shot) -> bool
-    ensures { Decides result (On line shot) }
-{
-    line.miss(shot) == 0
+    rack.iter().any(|shot| is_on_at_other(line, shot, speed))
 }
 
 // Whether a shot is on the line and has another speed.
 fn is_on_at_other(line: Line, shot: Shot, speed: u16) -> bool
     ensures { Decides result (On line shot × (shot.speed ≢ speed)) }
 {
-    line.miss(shot) == 0 && shot.speed != speed
+    is_on(line, shot) && shot.speed != speed
 }

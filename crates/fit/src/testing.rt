@@ -3,9 +3,10 @@
 ghost use Rattle.std.specs.Prelude.{◌≤◌, Decides};
 ghost use Rattle.fit.specs.Testing.{Fails, Tested, Best};
 
-use crate::place::shot_at;
-use crate::rates::{fall_about, rise_about};
-use lines::{Line, Side};
+use crate::on::is_on;
+use crate::rates::rate_about;
+use crate::ways::{Fall, Rise};
+use lines::Line;
 use racks::Rack;
 use shots::{PriceRule, Shot};
 
@@ -24,22 +25,17 @@ pub fn test_line<R: Rack, P: PriceRule>(rack: &R, rule: &P, line: Line) -> Outco
     ensures outcome { Tested (P.PriceRule.tariff rule.now) line (R.Rack.held rack.now) result }
     ensures best { Best (P.PriceRule.tariff rule.now) line (R.Rack.held rack.now) result }
 {
-    for place in 0..rack.count() {
-        let shot = shot_at(rack, place);
-        if fails(rack, rule, line, shot) {
-            return Outcome::FailsAt(place);
-        }
+    match rack.iter().position(|z| fails(rack, rule, line, z)) {
+        Some(place) => Outcome::FailsAt(place),
+        None => Outcome::Passes,
     }
-    Outcome::Passes
 }
 
 // Whether a shot is on the line and has a rate below 0.
 fn fails<R: Rack, P: PriceRule>(rack: &R, rule: &P, line: Line, z: Shot) -> bool
     ensures { Decides result (Fails (P.PriceRule.tariff rule.now) line (R.Rack.held rack.now) z) }
 {
-    match line.side(z) {
-        Side::On => rise_about(rack, rule, line, z) < 0 || fall_about(rack, rule, line, z) < 0,
-        Side::Late => false,
-        Side::Early => false,
-    }
+    is_on(line, z)
+        && (rate_about::<Rise, R, P>(rack, rule, line, z) < 0
+            || rate_about::<Fall, R, P>(rack, rule, line, z) < 0)
 }

@@ -5,7 +5,7 @@ ghost use Rattle.theory.specs.Points.{total as total_at};
 ghost use Rattle.fit.specs.Points.{points};
 ghost use Rattle.fit.specs.Totals.{total_of, Bounded, Even};
 
-use crate::place::shot_at;
+use crate::prices::prices_of;
 use lines::Line;
 use racks::Rack;
 use shots::PriceRule;
@@ -21,11 +21,9 @@ pub fn total<R: Rack, P: PriceRule>(rack: &R, rule: &P, line: Line) -> i64
     ensures most { Bounded line (R.Rack.held rack.now) result }
     ensures even { Even (P.PriceRule.tariff rule.now) line (R.Rack.held rack.now) result }
 {
-    let mut sum: i64 = 0;
-    for place in 0..rack.count() {
-        let shot = shot_at(rack, place);
-        let prices = rule.prices(i32::from(shot.stuff));
-        sum += line.share(shot, prices);
+    let mut sum = 0;
+    for shot in rack.iter() {
+        sum += line.share(shot, prices_of(rule, shot));
     }
     sum
 }

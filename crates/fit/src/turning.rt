@@ -2,10 +2,10 @@
 ghost use Rattle.std.specs.Prelude.{◌≡◌, ◌*◌, ◌≤◌, length, MatchOption};
 ghost use Rattle.fit.specs.Turning.{PullFrom, PullAt, Filled, TurnedAbout, TurnedAt, Descends, LowestAt};
 
-use crate::place::shot_at;
+use crate::prices::prices_of;
 use balance::{Pull, balance_point};
 use lines::{Line, Slope, reduced};
-use racks::Rack;
+use racks::{MOST_SHOTS, Rack};
 use shots::{PriceRule, Shot};
 
 /// The line through the shot at a place with the balance slope: each held shot of another speed pulls
@@ -17,23 +17,19 @@ pub fn turned_line<R: Rack, P: PriceRule>(rack: &R, rule: &P, place: i32) -> Opt
     ensures descends { Descends (P.PriceRule.tariff rule.now) (R.Rack.held rack.now) place result }
     ensures lowest { LowestAt (P.PriceRule.tariff rule.now) (R.Rack.held rack.now) place result }
 {
-    match rack.read(place) {
-        Ok(z) => turn_about(rack, rule, z),
-        Err(_) => None,
-    }
+    let z = rack.read(place).ok()?;
+    turn_about(rack, rule, z)
 }
 
 // The same about a shot.
 fn turn_about<R: Rack, P: PriceRule>(rack: &R, rule: &P, z: Shot) -> Option<Line>
     ensures { TurnedAbout (P.PriceRule.tariff rule.now) (R.Rack.held rack.now) z result }
 {
-    let mut pulls = [blank(); 512];
+    let mut pulls = [blank(); MOST_SHOTS];
     let count = fill(rack, rule, z, &mut pulls);
-    match balance_point(&pulls[..count]) {
-        // a key between two shots fits a line
-        Some(balance) => Line::about(z, balance.lowest),
-        None => None,
-    }
+    let balance = balance_point(&pulls[..count])?;
+    // a key between two shots fits a line
+    Line::about(z, balance.lowest)
 }
 
 // Writes the pulls of all held shots of another speed, and says how many there are.
@@ -41,11 +37,9 @@ fn fill<R: Rack, P: PriceRule>(rack: &R, rule: &P, z: Shot, pulls: &mut [Pull<Sl
     requires { length pulls.old ≡ 512 }
     ensures { Filled (P.PriceRule.tariff rule.now) z (R.Rack.held rack.now) pulls.new result }
 {
-    let mut count: usize = 0;
-    for place in 0..rack.count() {
-        let shot = shot_at(rack, place);
-        let prices = rule.prices(i32::from(shot.stuff));
-        if let Some(pull) = turn_pull(z, shot, prices) {
+    let mut count = 0;
+    for shot in rack.iter() {
+        if let Some(pull) = turn_pull(z, shot, prices_of(rule, shot)) {
             pulls[count] = pull;
             count += 1;
         }
@@ -88,12 +82,12 @@ fn pull_price(weight: u8, price: u8, ahead: u16) -> u32
 
 // What the places hold before they are written.
 fn blank() -> Pull<Slope> {
-    match reduced(0, 1) {
-        Some(key) => Pull {
-            key,
-            under: 1,
-            over: 1,
-        },
-        None => unreachable(),
+    let Some(key) = reduced(0, 1) else {
+        unreachable()
+    };
+    Pull {
+        key,
+        under: 1,
+        over: 1,
     }
 }

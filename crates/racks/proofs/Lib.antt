@@ -4,3 +4,4 @@ pub mod Stores
 pub mod Packs
 pub mod Flips
 pub mod Emptiness
+pub mod Going

@@ -4,5 +4,8 @@ use Rattle.fit.specs.Offsets.{offset_pull}
 use Rattle.fit.proofs.mounting.balanced.Given as goal
 
 abbrev pub invariant-loop-place : goal.invariant-loop-place
-invariant-loop-place g l =
-    (take l.place l.pulls ≡ map (offset_pull (g.P.PriceRule.tariff l.rule) l.a l.b) (take l.place (g.R.Rack.held l.rack))) × (length l.pulls ≡ 512)
+invariant-loop-place g l = record {
+  placed : l.place ≡ length l.yielded;
+  filled : take l.place l.pulls ≡ map (offset_pull (g.P.PriceRule.tariff l.rule) l.a l.b) l.yielded;
+  long : length l.pulls ≡ 512;
+}

@@ -1,12 +1,9 @@
--- `fall_rate`: the rate of the shot that was found.
-use Rattle.std.proofs.Common.{Some, ◌∙◌, subst, w32, w64, SFits, rules}
+use Rattle.std.proofs.Common.{subst, w32}
 use Rattle.std.proofs.lemmas.Int.{to_z-of_z}
-use Rattle.fit.specs.Rates.{OnAt}
+use Rattle.fit.specs.Rates.{fall_at, Rate}
 use Rattle.fit.proofs.rates.fall_rate.Goals as goal
 
-pub returns-in-Some : goal.returns-in-Some
-returns-in-Some g c =
-    let z = c.in-Some.z in
-    let h = subst (λ p. OnAt c.args.line (g.R.Rack.held c.args.rack.now) p (Some z)) (to_z-of_z w32 c.args.place c.ranges.place) c.in-Some.ensures in
-    let f : SFits w64 c.fall_about.result = search rules in
-    (z, h, to_z-of_z w64 c.fall_about.result f ∙ c.fall_about.ensures)
+pub returns : goal.returns
+returns g c =
+    let held = g.R.Rack.held c.args.rack.now in
+    subst (λ p. Rate (fall_at (g.P.PriceRule.tariff c.args.rule.now) c.args.line held) c.args.line held p c.rate_at.result) (to_z-of_z w32 c.args.place c.ranges.place) c.rate_at.ensures

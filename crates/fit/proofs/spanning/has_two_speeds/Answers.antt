@@ -1,21 +1,14 @@
 -- `has_two_speeds`: one speed on the line, and another.
-use Rattle.std.proofs.Common.{false, Decides, refl}
+use Rattle.std.proofs.Common.{Decides, rules}
+use borrow.Author.Tests.{tests}
 use Rattle.fit.specs.Spanning.{TwoSpeeds}
-use Rattle.fit.proofs.Speeds.{two_from, one_other, spans_all}
-use Rattle.fit.proofs.Tests.{not_both}
+use Rattle.fit.proofs.Held.{option_weaker}
+use Rattle.fit.proofs.Speeds.{two_speeds, spans_all}
 use Rattle.fit.proofs.spanning.has_two_speeds.Goals as goal
 
-pub returns-in-Some : goal.returns-in-Some
-returns-in-Some g c =
+pub returns : goal.returns
+returns g c =
     let l = c.args.line in
     let xs = g.R.Rack.held c.args.rack.now in
-    let v = c.in-Some.speed in
-    let d : Decides c.is_other_on.result (TwoSpeeds l xs) = (λ e. two_from l xs v c.in-Some.ensures (c.is_other_on.ensures.0 e), λ t. c.is_other_on.ensures.1 (one_other l xs v t)) in
-    record { shots = d; points = spans_all l xs c.is_other_on.result d }
-
-pub returns-in-None : goal.returns-in-None
-returns-in-None g c =
-    let l = c.args.line in
-    let xs = g.R.Rack.held c.args.rack.now in
-    let d : Decides false (TwoSpeeds l xs) = (λ e. absurd (not_both false e refl), λ t. absurd (c.in-None.ensures t.one t.one_in t.one_on)) in
-    record { shots = d; points = spans_all l xs false d }
+    let d : Decides c.is_some_and.result (TwoSpeeds l xs) = two_speeds l xs c.speed_on.result c.is_some_and.result c.speed_on.ensures (option_weaker c.speed_on.result _ _ _ (λ v k. search (rules, tests)) c.is_some_and.ensures) in
+    record { shots = d; points = spans_all l xs c.is_some_and.result d }

@@ -1,15 +1,13 @@
--- `is_other_on`: the first shot on the line at another speed.
-use Rattle.std.proofs.Common.{◌≡◌, refl, arith}
+-- `is_other_on`: some shot on the line has another speed, or none.
+use Rattle.std.proofs.Common.{◌≡◌, rules}
+use borrow.Author.Tests.{tests}
+use Rattle.std.proofs.lemmas.Iterator.{cases_from_any}
+use Rattle.std.proofs.lemmas.Iterator.Consumers.{YieldsList-from_first}
 use Rattle.lines.specs.Lines.{On}
-use Rattle.fit.proofs.Held.{place_more}
-use Rattle.fit.proofs.Tests.{not_both}
+use Rattle.fit.proofs.Speeds.{other_on}
 use Rattle.fit.proofs.spanning.is_other_on.Goals as goal
 
-pub returns-then-is_on_at_other : goal.returns-then-is_on_at_other
-returns-then-is_on_at_other g c =
-    let h = c.is_on_at_other.ensures.0 c.if-is_on_at_other.true in
-    (λ _. record { shot = c.shot_at-shot.result; member = record { place = c.loop-place.place; inside = omega arith; is = c.shot_at-shot.ensures }; on = h.0; other = h.1 }, λ _. refl)
-
-pub loop-place-preserved : goal.loop-place-preserved
-loop-place-preserved g c =
-    place_more (λ y. On c.args.line y × (y.speed ≡ c.args.speed → ⊥) → ⊥) (g.R.Rack.held c.args.rack.now) c.loop-place.place c.shot_at-shot.result (omega arith) c.shot_at-shot.ensures (λ h. not_both _ (c.is_on_at_other.ensures.1 h) c.if-is_on_at_other.false) c.loop-place.invariant
+pub returns : goal.returns
+returns g c =
+    let held = g.R.Rack.held c.args.rack.now in
+    other_on c.args.line held c.args.speed c.any.result (cases_from_any _ _ c.any.result (λ y. On c.args.line y × (y.speed ≡ c.args.speed → ⊥)) (λ y. On c.args.line y × (y.speed ≡ c.args.speed → ⊥) → ⊥) c.any.ensures.ran (YieldsList-from_first (λ x. x) (λ left. left) held (cc)) (λ x q k. search (rules, tests)) (λ x q k. search (rules, tests)))

@@ -1,21 +1,14 @@
 -- `speed_on`: the first shot on the line.
-use Rattle.std.proofs.Common.{refl, arith}
+use Rattle.std.proofs.Common.{Some, sym, refl, rules}
+use borrow.Author.Tests.{tests}
+use Rattle.std.proofs.lemmas.Iterator.{first_from_find}
+use Rattle.std.proofs.lemmas.Iterator.Consumers.{YieldsList-from_first}
 use Rattle.lines.specs.Lines.{On}
-use Rattle.fit.proofs.Held.{place_more}
-use Rattle.fit.proofs.Tests.{not_both}
 use Rattle.fit.proofs.spanning.speed_on.Goals as goal
 
-pub returns-then-is_on : goal.returns-then-is_on
-returns-then-is_on g c = record {
-  shot = c.shot_at-shot.result;
-  member = record { place = c.loop-place.place; inside = omega arith; is = c.shot_at-shot.ensures };
-  on = c.is_on.ensures.0 c.if-is_on.true;
-  speed = refl;
-}
-
-pub loop-place-preserved : goal.loop-place-preserved
-loop-place-preserved g c =
-    place_more (λ y. On c.args.line y → ⊥) (g.R.Rack.held c.args.rack.now) c.loop-place.place c.shot_at-shot.result (omega arith) c.shot_at-shot.ensures (λ on. not_both _ (c.is_on.ensures.1 on) c.if-is_on.false) c.loop-place.invariant
-
 pub returns : goal.returns
-returns g c z m on = c.loop-place.invariant m.place z (omega (arith, m.inside)) m.is on
+returns g c =
+    let held = g.R.Rack.held c.args.rack.now in
+    let x = c.in_ok-shot.shot in
+    let h = first_from_find _ _ (Some x) (On c.args.line) (λ y. On c.args.line y → ⊥) c.in_ok-shot.ensures.ran (YieldsList-from_first (λ x. x) (λ left. left) held (cc)) (λ x q k. search (rules, tests)) (λ x q k. search (rules, tests)) in
+    record { shot = x; member = record { place = h.1; inside = h.2; is = sym (h.3 x) }; on = h.0; speed = refl }

@@ -3,6 +3,6 @@ use Rattle.fit.specs.Turning.{Pulls}
 use Rattle.fit.proofs.turning.fill.Given as goal
 
 -- the pulls of the shots so far
-abbrev pub invariant-loop-place : goal.invariant-loop-place
-invariant-loop-place g l =
-    Pulls (g.P.PriceRule.tariff l.rule) l.z (take l.place (g.R.Rack.held l.rack)) (take l.count l.pulls) × (l.count ≤ l.place) × (length l.pulls ≡ 512)
+abbrev pub invariant-loop-shot : goal.invariant-loop-shot
+invariant-loop-shot g l =
+    Pulls (g.P.PriceRule.tariff l.rule) l.z l.yielded (take l.count l.pulls) × (l.count ≤ length l.yielded) × (length l.pulls ≡ 512)

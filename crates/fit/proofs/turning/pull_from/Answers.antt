@@ -18,3 +18,6 @@ returns c =
       under = price_is slow fast (c.args.weight * c.args.under) c.pull_price.result h c.pull_price.ensures;
       over = price_is slow fast (c.args.weight * c.args.over) c.pull_price-2.result h c.pull_price-2.ensures;
     }
+
+pub returns-in_err-key : goal.returns-in_err-key
+returns-in_err-key c = rw c.from_residual.ensures (omega (arith, ints, c.in_err-key.ensures.value))
