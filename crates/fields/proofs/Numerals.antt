@@ -1,5 +1,5 @@
 -- Numerals and numbers are each other's: a number's text reads as the number, and a numeral's number is written as the numeral.
-use Rattle.std.proofs.Common.{◌≡◌, ℕ, zero, suc, ◌+◌, ◌-◌, ◌*◌, ◌^◌, ◌<◌, ◌≤◌, true, false, List, [], ◌∷◌, length, get_or, drop, ℤ, pos, negsuc, neg_ℤ, IfSome, Some, None, decimal, fold, Option, sym, refl, ap, ◌∙◌, subst, ⊎_elim, arith, rules}
+use Rattle.std.proofs.Common.{◌≡◌, ℕ, zero, suc, ◌+◌, ◌-◌, ◌*◌, ◌^◌, ◌<◌, ◌≤◌, true, false, List, [], ◌∷◌, length, get_or, drop, ℤ, pos, negsuc, neg_ℤ, Some, None, decimal, fold, Option, sym, refl, ap, ◌∙◌, subst, ⊎_elim, arith, rules}
 use native.Mathlib.Nat.{pow-le-pow_right}
 use lib.Signed.{mag}
 use Rattle.std.proofs.lemmas.Fmt.{decimal_digit, decimal_nonempty, decimal-digits_value, digits_decimal, first_decimal, length-decimal-le, digits_value-decimal}
@@ -28,11 +28,11 @@ most_le Eight = omega arith
 own : IsNumeralModel (λ (ds : List ℕ). (i : ℕ) → i < length ds → IsInRange 48 57 (get_or ds i 0)) value_of
 own = numerals_by_fold _ tells_by_index (λ (n : ℕ) (ds : List ℕ). fold (λ (m b : ℕ). m * 10 + (b - 48)) n ds) (search rules)
 
-pub small_power : (most : ℕ) → most ≤ 8 → 10 ^ most ≤ 100000000
+small_power : (most : ℕ) → most ≤ 8 → 10 ^ most ≤ 100000000
 small_power most l = pow-le-pow_right {n = 10} (omega arith) {i = most} {j = 8} l
 
 -- unsigned: digits and their value
-pub natural_lt : (most : ℕ) (ds : List ℕ) → Natural most ds → value_of ds < 10 ^ most
+natural_lt : (most : ℕ) (ds : List ℕ) → Natural most ds → value_of ds < 10 ^ most
 natural_lt most ds nat = digits_value_short own ds most nat.digits nat.short
 
 natural_again : (most : ℕ) (ds : List ℕ) → most ≤ 8 → Natural most ds → decimal (value_of ds) ≡ ds
@@ -47,7 +47,7 @@ natural_decimal : (most n : ℕ) → 0 < most → n < 10 ^ most → n < 2 ^ 64 �
 natural_decimal most n some small l =
     record { some = decimal_nonempty n l; short = length-decimal-le most n some small l; plain = one_zero n l; digits = digits_decimal own n l }
 
-pub natural_plain : (most : ℕ) (ds : List ℕ) → Natural most ds → has_minus ds ≡ false
+natural_plain : (most : ℕ) (ds : List ℕ) → Natural most ds → has_minus ds ≡ false
 natural_plain most ds nat =
     ne_eqb (get_or ds 0 0) 45 (λ e. let d = nat.digits 0 nat.some in omega arith)
 
@@ -106,13 +106,7 @@ reads_back z l =
     let e = signed_of_signed z l in
     record { value = e; fits = λ d. numeral_signed (most_of d) z (most_some d) l; only = λ d num. subst (Within (most_of d)) e (within_signed_of (most_of d) (signed_decimal z) num) }
 
--- what holds of a numeral's number holds of what was read
-read_gives : {T : Type 0} (r : Option T) (P : Type 0) (v : T) (Q : T → Type 0) → SomeIff r P v → (P → Q v) → IfSome r Q
-read_gives None P v Q h f = tt
-read_gives (Some x) P v Q h f = subst Q (sym h.1) (f h.0)
-
-pub read_within : (d : Digits) (text : List ℕ) (r : Option ℤ) → SomeIff r (Numeral (most_of d) text) (signed_of text) → IfSome r (Within (most_of d))
-read_within d text r h = read_gives r _ _ _ h (within_signed_of (most_of d) text)
-
+-- what was read is written the same again
 pub read_again : (d : Digits) (text : List ℕ) (r : Option ℤ) → SomeIff r (Numeral (most_of d) text) (signed_of text) → WritesBack text r
-read_again d text r h = read_gives r _ _ _ h (signed_signed_of (most_of d) text (most_le d))
+read_again d text None h = tt
+read_again d text (Some z) h = ap signed_decimal h.1 ∙ signed_signed_of (most_of d) text (most_le d) h.0

@@ -1,21 +1,14 @@
 //! The fields of a line, cut at each tab.
-ghost use Rattle.std.specs.Prelude.{◌≡◌, ℕ, ◌+◌, ◌<◌, ◌≤◌, length, IfSome, count_by, ◌≢◌, slice_index};
+ghost use Rattle.std.specs.Prelude.{◌≡◌, ◌+◌, length, IfSome, count_by, position};
 ghost use Rattle.std.specs.List.{slice_get};
 ghost use Rattle.std.specs.Option.{option_map};
 ghost use Rattle.fields.specs.Fields.{PartOf, is_tab, parts};
 
-// The index of the first tab, or the length where there is none.
-fn first_tab(line: &[u8]) -> usize
-    ensures within { result ≤ length line.now }
-    ensures before { (k : ℕ) → k < result → slice_index line.now k ≢ 9 }
-    ensures found { result < length line.now → slice_index line.now result ≡ 9 }
+// The index of the first tab, if there is one.
+fn first_tab(line: &[u8]) -> Option<usize>
+    ensures { result ≡ position is_tab line.now }
 {
-    for (i, b) in line.iter().enumerate() {
-        if *b == b'\t' {
-            return i;
-        }
-    }
-    line.len()
+    line.iter().position(|b| *b == b'\t')
 }
 
 /// Field `k` of a line, counted from 0, or `None` where the line has no such field.
@@ -27,17 +20,12 @@ pub fn field(line: &[u8], k: usize) -> Option<&[u8]>
     ensures lent { IfSome result (PartOf line.entry) }
 {
     let mut start = 0;
-    let mut left = k;
-    while left > 0 {
-        let tab = start + first_tab(&line[start..]);
-        if tab == line.len() {
-            return None;
-        }
-        start = tab + 1;
-        left -= 1;
+    for _ in 0..k {
+        start += first_tab(&line[start..])? + 1;
     }
-    let end = start + first_tab(&line[start..]);
-    Some(&line[start..end])
+    let rest = &line[start..];
+    let end = first_tab(rest).unwrap_or(rest.len());
+    Some(&rest[..end])
 }
 
 /// How many fields a line has: one more than there are tabs.
@@ -45,11 +33,5 @@ pub fn field_count(line: &[u8]) -> usize
     ensures parts { result ≡ length (parts line.now) }
     ensures tabs { result ≡ count_by is_tab line.now + 1 }
 {
-    let mut count = 1;
-    for b in line {
-        if *b == b'\t' {
-            count += 1;
-        }
-    }
-    count
+    line.iter().filter(|b| **b == b'\t').count() + 1
 }

@@ -11,32 +11,14 @@ fn natural(ds: &[u8], digits: Digits) -> Option<u32>
     ensures value { SomeIff result (Natural (most_of digits) ds.now) (value_of ds.now) }
     ensures small { IfSome result (λ n. n < 10 ^ most_of digits) }
 {
-    let most = digits.most();
-    if ds.len() == 0 || ds.len() > most {
+    if matches!(ds, [] | [b'0', _, ..]) || ds.len() > digits.most() {
         return None;
     }
-    if ds[0] == b'0' && ds.len() > 1 {
-        return None;
-    }
-    let mut n = 0u32;
+    let mut n = 0;
     for b in ds {
-        if *b < b'0' || *b > b'9' {
-            return None;
-        }
-        n = n * 10 + u32::from(*b - b'0');
+        n = n * 10 + char::from(*b).to_digit(10)?;
     }
     Some(n)
-}
-
-// What a minus in front of the digits gives: nothing, in front of 0.
-fn negated(ds: &[u8], digits: Digits) -> Option<i32>
-    ensures { SomeIff result (Natural (most_of digits) ds.now × (0 < value_of ds.now)) (neg_ℤ (pos (value_of ds.now))) }
-{
-    match natural(ds, digits) {
-        Some(0) => None,
-        Some(n) => Some(-(n as i32)),
-        None => None,
-    }
 }
 
 /// The number that a text writes, or `None` where the text is no number.
@@ -48,11 +30,9 @@ pub fn number(text: &[u8], digits: Digits) -> Option<i32>
     ensures within { IfSome result (Within (most_of digits)) }
     ensures writes_back { WritesBack text.now result }
 {
-    if text.len() > 0 && text[0] == b'-' {
-        return negated(&text[1..], digits);
-    }
-    match natural(text, digits) {
-        Some(n) => Some(n as i32),
-        None => None,
+    // at most eight digits, so the casts keep the number
+    match text {
+        [b'-', ds @ ..] => natural(ds, digits).filter(|n| *n != 0).map(|n| -(n as i32)),
+        _ => natural(text, digits).map(|n| n as i32),
     }
 }

@@ -43,7 +43,7 @@ fn tokens_hold_their_fields(rt: HostRuntime) {
     );
     assert!(rt;
         match token_at(line, 1, Digits::Six) {
-            Some(Token::Blank(text)) => text.len() == 0,
+            Some(Token::Blank(text)) => text.is_empty(),
             _ => false,
         }
     );

@@ -25,7 +25,7 @@ pub fn token_of<'a>(text: &'a [u8], digits: Digits) -> Token<'a>
     ensures token { TokenOf digits text.now result }
     ensures lent { bytes_of result ≡ text.entry }
 {
-    if text.len() == 0 {
+    if text.is_empty() {
         return Token::Blank(text);
     }
     match number(text, digits) {
@@ -41,8 +41,5 @@ pub fn token_at<'a>(line: &'a [u8], k: usize, digits: Digits) -> Option<Token<'a
     ensures token { TokenAt digits line.now k result }
     ensures lent { IfSome result (λ token. PartOf line.entry (bytes_of token)) }
 {
-    match field(line, k) {
-        Some(text) => Some(token_of(text, digits)),
-        None => None,
-    }
+    field(line, k).map(|text| token_of(text, digits))
 }

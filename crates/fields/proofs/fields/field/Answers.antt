@@ -1,40 +1,36 @@
--- Each turn leaves the first part behind; the last one answers it, where it lies.
-use Rattle.std.proofs.Common.{◌≡◌, ℕ, ◌+◌, ◌-◌, ◌<◌, ◌≤◌, length, get_or, take, drop, Some, sym, refl, ap, ◌∙◌, arith}
+-- Each turn leaves the first part behind; the last one answers it.
+use Rattle.std.proofs.Common.{◌≡◌, suc, ◌+◌, ◌-◌, drop, Some, None, sym, ap, ◌∙◌, arith}
 use Rattle.std.proofs.lemmas.List.{length-drop, take_rest}
 use Rattle.std.specs.List.{slice_get}
 use Rattle.fields.specs.Fields.{parts}
-use Rattle.fields.proofs.Cuts.{NoTab, first_part, later_part, no_later_part, part_from}
+use Rattle.fields.proofs.Cuts.{cut, first_part, later_part, no_later_part}
 use Rattle.fields.proofs.fields.field.Goals as goal
 
-pub loop-left-preserved : goal.loop-left-preserved
-loop-left-preserved c =
+pub loop-preserved : goal.loop-preserved
+loop-preserved c =
     let xs = c.args.line.now in
-    let s = c.loop-left.start in
-    let n = c.first_tab.result in
-    let rest = take_rest xs s in
-    let size = length-drop s xs in
-    let w : n ≤ length (drop s xs) = simp rest at c.first_tab.ensures.within in
-    let l : n < length (drop s xs) = omega arith in
-    let tab : n < length (drop s xs) → get_or (drop s xs) n 0 ≡ 9 = simp rest at c.first_tab.ensures.found in
-    (c.loop-left.invariant.0 ∙ later_part xs s n c.loop-left.left l (simp rest at c.first_tab.ensures.before) (tab l) c.loop-left-test.true, omega arith)
+    let s = c.loop.start in
+    let n = c.in_ok-start.field-0 in
+    let left = c.args.k - (c.loop.counter + 1) in
+    let turns : c.args.k - c.loop.counter ≡ suc left = omega arith in
+    let tab = cut (drop s xs) (Some n) (sym c.in_ok-start.was ∙ simp (take_rest xs s) at c.first_tab.ensures) in
+    record { same = c.loop.invariant.same ∙ ap (slice_get (parts (drop s xs))) turns ∙ later_part xs s n left tab; within = omega (arith, tab.0, length-drop s xs) }
 
-pub returns-then-tab-line : goal.returns-then-tab-line
-returns-then-tab-line c =
+pub returns-in_err-start-clause-bytes : goal.returns-in_err-start-clause-bytes
+returns-in_err-start-clause-bytes c =
     let xs = c.args.line.now in
-    let s = c.loop-left.start in
-    let size = length-drop s xs in
-    let none : NoTab (drop s xs) c.first_tab.result = simp (take_rest xs s) at c.first_tab.ensures.before in
-    record { bytes = sym (c.loop-left.invariant.0 ∙ no_later_part (drop s xs) c.loop-left.left (λ k l. none k (omega arith)) c.loop-left-test.true); lent = tt }
+    let s = c.loop.start in
+    let left = c.args.k - (c.loop.counter + 1) in
+    let turns : c.args.k - c.loop.counter ≡ suc left = omega arith in
+    let whole = cut (drop s xs) None (sym c.in_err-start.was ∙ simp (take_rest xs s) at c.first_tab.ensures) in
+    rw c.from_residual.ensures (sym (c.loop.invariant.same ∙ ap (slice_get (parts (drop s xs))) turns ∙ no_later_part (drop s xs) left whole))
 
-pub returns : goal.returns
-returns c =
+pub returns-clause-bytes : goal.returns-clause-bytes
+returns-clause-bytes c =
     let xs = c.args.line.now in
-    let s = c.loop-left.start in
-    let n = c.first_tab-2.result in
+    let s = c.loop.start in
     let rest = take_rest xs s in
-    let size = length-drop s xs in
-    let z : c.loop-left.left ≡ 0 = omega arith in
-    let m : s + n - s ≡ n = omega arith in
-    let w : n ≤ length (drop s xs) = simp rest at c.first_tab-2.ensures.within in
-    let first = first_part (drop s xs) n w (simp rest at c.first_tab-2.ensures.before) (simp rest at c.first_tab-2.ensures.found) in
-    record { bytes = ap (λ (k : ℕ). Some (take k (drop s xs))) m ∙ sym (c.loop-left.invariant.0 ∙ ap (slice_get (parts (drop s xs))) z ∙ first); lent = part_from c.args.line _ s (s + n - s) (omega arith) refl refl }
+    let end = simp rest at c.unwrap_or-end.ensures in
+    let last : c.args.k - c.loop.counter ≡ 0 = omega arith in
+    let part = cut (drop s xs) c.first_tab-2.result (simp rest at c.first_tab-2.ensures) in
+    rw (rest, end) (sym (c.loop.invariant.same ∙ ap (slice_get (parts (drop s xs))) last ∙ first_part (drop s xs) c.first_tab-2.result part))

@@ -1,5 +1,0 @@
--- Each call has fewer digits left.
-use Rattle.fields.proofs.written.+put_natural.Given as goal
-
-abbrev pub decreases-put_natural : goal.decreases-put_natural
-decreases-put_natural l = l.n

@@ -1,8 +1,0 @@
--- No number has more than twenty digits.
-use Rattle.std.proofs.Common.{arith}
-use Rattle.std.proofs.lemmas.Fmt.{length-decimal-le}
-use Rattle.fields.proofs.written.text_length.Goals as goal
-
-pub overflow_add-result : goal.overflow_add-result
-overflow_add-result c =
-    omega (arith, length-decimal-le 20 c.unsigned_abs.result (omega arith) (omega arith) (omega arith))
