@@ -1,6 +1,11 @@
 -- Input cut at its first line feed.
-use Rattle.std.proofs.Common.{◌≡◌, ℕ, zero, suc, ◌+◌, ◌-◌, ◌<◌, List, [], ◌∷◌, ◌++◌, length, get_or, take, drop, sym, refl, ap, ◌∙◌, add-one, arith}
+use Rattle.std.proofs.Common.{◌≡◌, ℕ, zero, suc, ◌+◌, ◌-◌, ◌<◌, ◌≤◌, ◌==◌, List, [], ◌∷◌, ◌++◌, length, get_or, take, drop, Some, None, Option, position, sym, refl, ap, ◌∙◌, ⊎_elim, add-one, arith}
 use Rattle.std.proofs.lemmas.List.{length-take, get_or-take, take_rest}
+use Rattle.std.proofs.lemmas.List.Quantifiers.{position-Some}
+use Rattle.std.proofs.lemmas.List.Sums.{fails_before_first}
+use Rattle.std.proofs.lemmas.Bool.{cases_lt, cond_below, eqb-true, eq-eqb, false≢true}
+use Rattle.std.proofs.lemmas.Option.{none-some}
+use Rattle.std.specs.List.{position_or_len}
 use Rattle.appraisal.specs.Text.{NoFeed}
 
 pub empty : (xs : List ℕ) → length xs ≡ 0 → xs ≡ []
@@ -12,11 +17,26 @@ cut_at [] n b h e = absurd (omega arith)
 cut_at (x ∷ xs) zero b h e = ap (λ y. y ∷ xs) e
 cut_at (x ∷ xs) (suc n) b h e = ap (λ ys. x ∷ ys) (cut_at xs n b (omega arith) e)
 
--- what comes before the first line feed, and after it
-pub cut_feed : (xs : List ℕ) (n : ℕ) → n < length xs → get_or xs n 0 ≡ 10 → xs ≡ take n xs ++ 10 ∷ take (length xs - (n + 1)) (drop (n + 1) xs)
-cut_feed xs n h e = cut_at xs n 10 h e ∙ rw (take_rest xs (n + 1), add-one)
+abbrev first : List ℕ → Option ℕ
+first xs = position (λ b. b == 10) xs
 
-pub no_feed : (xs : List ℕ) (n : ℕ) → ((k : ℕ) → k < n → get_or xs k 0 ≡ 10 → ⊥) → NoFeed (take n xs)
-no_feed xs n h k l e =
+-- what comes before the first line feed, and after it
+pub cut_feed : (xs : List ℕ) (n : ℕ) → first xs ≡ Some n → xs ≡ take n xs ++ 10 ∷ take (length xs - (n + 1)) (drop (n + 1) xs)
+cut_feed xs n e =
+    let p = position-Some (λ b. b == 10) xs n 0 e in
+    cut_at xs n 10 p.0 (eqb-true (get_or xs n 0) 10 p.1) ∙ rw (take_rest xs (n + 1), add-one)
+
+pub no_feed : (xs : List ℕ) (n : ℕ) → first xs ≡ Some n → NoFeed (take n xs)
+no_feed xs n e k l f =
+    let p = position-Some (λ b. b == 10) xs n 0 e in
     let m : k < n = omega (arith, length-take n xs) in
-    h k m (sym (get_or-take n xs k 0 m) ∙ e)
+    false≢true (sym (p.2 k m) ∙ eq-eqb (get_or xs k 0) 10 (sym (get_or-take n xs k 0 m) ∙ f))
+
+-- without one, the input is one text line
+pub no_feed_at_all : (xs : List ℕ) → first xs ≡ None → NoFeed xs
+no_feed_at_all xs e k l f =
+    let at = position_or_len (λ b. b == 10) xs in
+    ⊎_elim
+    (λ (h : at < length xs). none-some at (sym e ∙ sym (cond_below at (length xs) (Some at) None h)))
+    (λ (h : length xs ≤ at). false≢true (sym (fails_before_first (λ b. b == 10) xs k 0 (omega arith)) ∙ eq-eqb (get_or xs k 0) 10 f))
+    (cases_lt at (length xs))

@@ -1,6 +1,8 @@
 -- What came of a life by the plan of shots: its moments are those of the plan, and what it answers is the best line.
-use Rattle.std.proofs.Common.{◌≡◌, ℕ, ◌+◌, ◌-◌, ◌<◌, ◌≤◌, List, [], reverse, length, get_or, take, drop, Some, None, Option, sym, ap, ◌∙◌, subst, subst₂, ⊎_elim, arith}
+use Rattle.std.proofs.Common.{◌≡◌, ℕ, ◌+◌, ◌-◌, ◌<◌, ◌≤◌, List, [], reverse, length, get_or, take, drop, Some, None, Option, MatchOption, sym, ap, ◌∙◌, subst, inr, ⊎_elim, arith}
 use Rattle.std.proofs.lemmas.List.{take_at}
+use Rattle.std.proofs.lemmas.Option.{none-some}
+use Rattle.std.specs.Option.{IsSomeAnd}
 use Rattle.shots.specs.Prices.{even}
 use Rattle.shots.specs.declared.shot.Shot.{Shot}
 use Rattle.lines.specs.declared.line.Line.{Line}
@@ -17,18 +19,18 @@ use Rattle.appraisal.specs.declared.finding.Found.{Found}
 use Rattle.appraisal.proofs.Fresh.{last_in_force, ended}
 use Rattle.appraisal.proofs.Plans.{length_plan}
 
--- the life of what was planned, with its answer as it was found
-pub as_planned : (xs fresh ys : List Shot) (calls planned : List Call) (before after : List Moment) (cap k : ℕ) (o p : Option ℕ) → Planned xs calls (Some k) planned → Lives even cap fresh (take k planned) before o after ys → o ≡ p → Lives even cap fresh (plan_of xs) before p after ys
-as_planned xs fresh ys calls planned before after cap k o p made lives is =
+-- the life of what was planned is the plan's
+pub as_planned : (xs fresh ys : List Shot) (calls planned : List Call) (before after : List Moment) (cap k : ℕ) (o : Option ℕ) → Planned xs calls (Some k) planned → Lives even cap fresh (take k planned) before o after ys → Lives even cap fresh (plan_of xs) before o after ys
+as_planned xs fresh ys calls planned before after cap k o made lives =
     let same : take k planned ≡ plan_of xs = ap (take k) made.2 ∙ take_at (plan_of xs) (drop k calls) k (sym made.0) in
-    subst₂ (λ (cs : List Call) (q : Option ℕ). Lives even cap fresh cs before q after ys) same is lives
+    subst (λ (cs : List Call). Lives even cap fresh cs before o after ys) same lives
 
 tells_best : (xs : List Shot) (o : Option Line) (a : BestLine) → Tells xs o a → ((l : Line) → o ≡ Some l → IsBest even xs l) → (o ≡ None → OneSpeed xs) → BestOf xs a
 tells_best xs o (Best by) t best none = (t.0, best t.0 t.1, t.2)
 tells_best xs o NoLine t best none = none t
 
 module _ {cap n : ℕ} {xs ys : List Shot} {before after : List Moment} (is : n ≡ length (plan_of xs)) (made : LifeMade even cap (plan_of xs) before after ys) where
-  pub found : (d : Moment) (a : BestLine) → length (plan_of xs) ≤ length after → Tells xs (get_or after (n - 1) d).pass a → Made cap xs before after ys (record { count = n; best = a })
+  found : (d : Moment) (a : BestLine) → length (plan_of xs) ≤ length after → Tells xs (get_or after (n - 1) d).pass a → Made cap xs before after ys (record { count = n; best = a })
   found d a long told =
       let some = length_plan xs in
       let all : n - 1 + 1 ≡ length (plan_of xs) = omega arith in
@@ -41,6 +43,15 @@ module _ {cap n : ℕ} {xs ys : List Shot} {before after : List Moment} (is : n 
         best = λ room. let e = ended even cap xs front made.transcript room in tells_best xs (get_or after (n - 1) d).pass a told (λ l q. e.best l (pass ∙ q)) (λ q. e.none (pass ∙ q));
         holds = λ room. made.holds ∙ (ended even cap xs front made.transcript room).held;
       }
+
+-- what came of a life: what its last moment tells, where it was made
+pub finds : (cap room : ℕ) (xs fresh ys : List Shot) (before after : List Moment) (o : Option ℕ) (r : Option Found) → length (plan_of xs) ≤ room → length after ≡ length before → Lives even cap fresh (plan_of xs) before o after ys → MatchOption o (r ≡ None) (λ n. IsSomeAnd r (λ f. (f.count ≡ n) × (d : Moment) × Tells xs (get_or after (n - 1) d).pass f.best)) → Finds cap xs fresh room before r after ys
+finds cap room xs fresh ys before after None None fits same lives told = (λ e. inr (lives.0 e), lives.1, lives.2)
+finds cap room xs fresh ys before after None (Some f) fits same lives told = absurd (none-some f (sym told))
+finds cap room xs fresh ys before after (Some n) None fits same lives told = absurd told
+finds cap room xs fresh ys before after (Some n) (Some f) fits same lives told =
+    let tells = subst (λ (k : ℕ). Tells xs (get_or after (k - 1) told.1).pass f.best) (sym told.0) told.2 in
+    (lives.0, fits, lives.1, found (told.0 ∙ lives.2) lives.3 told.1 f.best (omega (arith, lives.1)) tells)
 
 -- a life is made on an empty rack, whatever is held, where there is room for the longest plan
 pub always_found : (cap room : ℕ) (xs fresh ys : List Shot) (before after : List Moment) (o : Option Found) → Finds cap xs fresh room before o after ys → o ≡ None → fresh ≡ [] → length xs ≤ 512 → 1025 ≤ room → 1025 ≤ length before → ⊥

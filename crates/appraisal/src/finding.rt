@@ -72,21 +72,13 @@ pub fn find_best<R: Rack, F: Rack>(
         };
     };
     let lived = live(fresh, EvenPrices, &calls[..planned], moments);
-    match lived.count {
-        Some(count) => {
-            let last = count - 1;
-            Finding {
-                found: Some(Found {
-                    count,
-                    best: in_force(rack, moments[last].pass),
-                }),
-                rack: lived.rack,
-            }
-        }
-        None => Finding {
-            found: None,
-            rack: lived.rack,
-        },
+    let found = lived.count.map(|count| Found {
+        count,
+        best: in_force(rack, moments[count - 1].pass),
+    });
+    Finding {
+        found,
+        rack: lived.rack,
     }
 }
 
@@ -94,11 +86,7 @@ pub fn find_best<R: Rack, F: Rack>(
 pub fn settles(reply: Reply) -> bool
     ensures { Decides result (Settles reply) }
 {
-    match reply {
-        Reply::Told(word, _) => word == Word::Proved,
-        Reply::Refused(_) => true,
-        _ => false,
-    }
+    matches!(reply, Reply::Told(Word::Proved, _) | Reply::Refused(_))
 }
 
 // A line in force with its total, or that none is.

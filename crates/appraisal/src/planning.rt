@@ -1,5 +1,5 @@
 //! The calls of a fresh life of the held shots: each is added, then the line is pivoted to its end.
-ghost use Rattle.std.specs.Prelude.{◌≡◌, ◌<◌, ◌≤◌, ◌++◌, length, drop, slice_index_or};
+ghost use Rattle.std.specs.Prelude.{◌≡◌, ◌<◌, length, slice_index_or};
 ghost use Rattle.appraisal.specs.Planning.{plan_of, Planned};
 
 use law::Call;
@@ -13,22 +13,20 @@ pub fn plan<R: Rack>(rack: &R, calls: &mut [Call]) -> Option<usize>
 {
     // a rack holds at most 512 shots, so this is at most 1025
     let count = 2 * rack.count() + 1;
-    if count <= calls.len() {
-        fill(rack, calls, count);
-        Some(count)
-    } else {
-        None
+    if count > calls.len() {
+        return None;
     }
+    fill(rack, &mut calls[..count]);
+    Some(count)
 }
 
-// Writes the plan into calls that have room for it.
-fn fill<R: Rack>(rack: &R, calls: &mut [Call], count: usize)
-    requires long { count ≡ length (plan_of (R.Rack.held rack.now)) }
-    requires room { count ≤ length calls.old }
-    ensures { calls.new ≡ plan_of (R.Rack.held rack.now) ++ drop count calls.old }
+// Writes the plan into calls that are as many.
+fn fill<R: Rack>(rack: &R, calls: &mut [Call])
+    requires { length calls.old ≡ length (plan_of (R.Rack.held rack.now)) }
+    ensures { calls.new ≡ plan_of (R.Rack.held rack.now) }
 {
-    for i in 0..count {
-        calls[i] = call_at(rack, i);
+    for (i, call) in calls.iter_mut().enumerate() {
+        *call = call_at(rack, i);
     }
 }
 

@@ -19,8 +19,8 @@ pub struct Entry {
 fn number_at(text: &[u8], k: usize, digits: Digits) -> Option<i32>
     ensures { MatchOption result ((z : ℤ) → Writes (most_of digits) text.now k z → ⊥) (λ z. Writes (most_of digits) text.now k z) }
 {
-    match token_at(text, k, digits) {
-        Some(Token::Number { text: _, value }) => Some(value),
+    match token_at(text, k, digits)? {
+        Token::Number { value, .. } => Some(value),
         _ => None,
     }
 }
@@ -33,15 +33,9 @@ pub fn read_card(text: &[u8]) -> Option<Line>
     if field_count(text) != 3 {
         return None;
     }
-    let Some(a) = number_at(text, 0, Digits::Six) else {
-        return None;
-    };
-    let Some(b) = number_at(text, 1, Digits::Six) else {
-        return None;
-    };
-    let Some(c) = number_at(text, 2, Digits::Eight) else {
-        return None;
-    };
+    let a = number_at(text, 0, Digits::Six)?;
+    let b = number_at(text, 1, Digits::Six)?;
+    let c = number_at(text, 2, Digits::Eight)?;
     Line::new(a, b, c)
 }
 
@@ -53,18 +47,10 @@ pub fn read_entry(text: &[u8]) -> Option<Entry>
     if field_count(text) != 4 {
         return None;
     }
-    let Some(speed) = number_at(text, 0, Digits::Six) else {
-        return None;
-    };
-    let Some(lead) = number_at(text, 1, Digits::Six) else {
-        return None;
-    };
-    let Some(weight) = number_at(text, 2, Digits::Six) else {
-        return None;
-    };
-    let Some(stuff) = number_at(text, 3, Digits::Six) else {
-        return None;
-    };
+    let speed = number_at(text, 0, Digits::Six)?;
+    let lead = number_at(text, 1, Digits::Six)?;
+    let weight = number_at(text, 2, Digits::Six)?;
+    let stuff = number_at(text, 3, Digits::Six)?;
     Some(Entry {
         speed,
         lead,

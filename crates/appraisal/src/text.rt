@@ -1,19 +1,12 @@
 //! Input cut into text lines.
-ghost use Rattle.std.specs.Prelude.{◌≡◌, ℕ, ◌<◌, ◌≤◌, length, ◌≢◌, slice_index};
+ghost use Rattle.std.specs.Prelude.{◌≡◌, ◌==◌, position};
 ghost use Rattle.appraisal.specs.Text.{TextLine};
 
-// The index of the first line feed, or the length where there is none.
-fn first_feed(input: &[u8]) -> usize
-    ensures within { result ≤ length input.now }
-    ensures before { (k : ℕ) → k < result → slice_index input.now k ≢ 10 }
-    ensures found { result < length input.now → slice_index input.now result ≡ 10 }
+// The index of the first line feed, if there is one.
+fn first_feed(input: &[u8]) -> Option<usize>
+    ensures { result ≡ position (λ b. b == 10) input.now }
 {
-    for (i, b) in input.iter().enumerate() {
-        if *b == b'\n' {
-            return i;
-        }
-    }
-    input.len()
+    input.iter().position(|b| *b == b'\n')
 }
 
 /// The first text line of some input, without its line feed, and the input after it; none where
@@ -24,9 +17,8 @@ pub fn text_line(input: &[u8]) -> Option<(&[u8], &[u8])>
     if input.is_empty() {
         return None;
     }
-    let end = first_feed(input);
-    if end == input.len() {
-        return Some((input, &input[end..]));
+    match first_feed(input) {
+        Some(end) => Some((&input[..end], &input[end + 1..])),
+        None => Some((input, &[])),
     }
-    Some((&input[0..end], &input[end + 1..]))
 }

@@ -1,13 +1,14 @@
+-- `read_entry`: a field that is no number is none of a shot's.
 use Rattle.appraisal.proofs.reading.read_entry.Goals as goal
 
-pub returns-in_default : goal.returns-in_default
-returns-in_default c s h w m t = c.in_default.ensures s t.speed
+pub returns-in_err-speed : goal.returns-in_err-speed
+returns-in_err-speed c = rw c.from_residual.ensures (λ s h w m t. c.in_err-speed.ensures s t.speed)
 
-pub returns-in_default-number_at : goal.returns-in_default-number_at
-returns-in_default-number_at c s h w m t = c.in_default-number_at.ensures h t.lead
+pub returns-in_err-lead : goal.returns-in_err-lead
+returns-in_err-lead c = rw c.from_residual-in_err-lead.ensures (λ s h w m t. c.in_err-lead.ensures h t.lead)
 
-pub returns-in_default-number_at-2 : goal.returns-in_default-number_at-2
-returns-in_default-number_at-2 c s h w m t = c.in_default-number_at-2.ensures w t.weight
+pub returns-in_err-weight : goal.returns-in_err-weight
+returns-in_err-weight c = rw c.from_residual-in_err-weight.ensures (λ s h w m t. c.in_err-weight.ensures w t.weight)
 
-pub returns-in_default-number_at-3 : goal.returns-in_default-number_at-3
-returns-in_default-number_at-3 c s h w m t = c.in_default-number_at-3.ensures m t.stuff
+pub returns-in_err-stuff : goal.returns-in_err-stuff
+returns-in_err-stuff c = rw c.from_residual-in_err-stuff.ensures (λ s h w m t. c.in_err-stuff.ensures m t.stuff)

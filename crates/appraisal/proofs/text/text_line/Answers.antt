@@ -1,14 +1,16 @@
-use Rattle.std.proofs.Common.{◌≡◌, ◌-◌, ◌<◌, length, inl, arith, rules}
-use Rattle.appraisal.proofs.Feeds.{empty, cut_feed, no_feed}
+-- `text_line`: the input is cut at its first line feed, if it has one.
+use Rattle.std.proofs.Common.{refl, sym, inl, inr, rules}
+use Rattle.appraisal.proofs.Feeds.{empty, cut_feed, no_feed, no_feed_at_all}
 use Rattle.appraisal.proofs.text.text_line.Goals as goal
 
 pub returns-then-is_empty : goal.returns-then-is_empty
 returns-then-is_empty c = empty c.args.input.now (search rules)
 
-pub returns : goal.returns
-returns c =
+pub returns-in-Some : goal.returns-in-Some
+returns-in-Some c =
     let xs = c.args.input.now in
-    let n = c.first_feed-end.result in
-    let z : n - 0 ≡ n = omega arith in
-    let l : n < length xs = omega (arith, c.first_feed-end.ensures.within) in
-    rw z (no_feed xs n c.first_feed-end.ensures.before, inl (cut_feed xs n l (c.first_feed-end.ensures.found l)))
+    let n = c.in-Some.end in
+    (no_feed xs n (sym c.in-Some.ensures), inl (cut_feed xs n (sym c.in-Some.ensures)))
+
+pub returns-in-None : goal.returns-in-None
+returns-in-None c = (no_feed_at_all c.args.input.now (sym c.in-None.ensures), inr (refl, refl, search rules))
