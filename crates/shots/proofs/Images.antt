@@ -1,8 +1,9 @@
 -- Six bytes and the shot that they stand for determine each other.
-use Rattle.std.proofs.Common.{◌≡◌, ℕ, ◌+◌, ◌*◌, ◌/◌, ◌%◌, ◌<◌, List, [], ◌∷◌, length, get_or, ℤ, pos, negsuc, ◌≤ℤ◌, Some, None, sym, refl, ap, ◌∙◌, arith, w8, w16, w32, Fits, SFits, to_z, of_z}
+use Rattle.std.proofs.Common.{◌≡◌, ℕ, ◌+◌, ◌*◌, ◌/◌, ◌%◌, ◌<◌, List, [], ◌∷◌, length, get_or, ℤ, pos, negsuc, ◌≤ℤ◌, Some, None, Ok, Err, Result, sym, refl, ap, ◌∙◌, arith, w8, w16, w32, Fits, SFits, to_z, of_z}
 use Rattle.std.proofs.lemmas.Int.{ints, to_z-of_z, of_z-to_z}
-use Rattle.shots.specs.Shots.{fault, Reads}
-use Rattle.shots.specs.Images.{twos, image_of}
+use Rattle.std.specs.Result.{result_ok}
+use Rattle.shots.specs.Shots.{fault, Reads, Judged}
+use Rattle.shots.specs.Images.{twos, image_of, Unpacked}
 use Rattle.shots.specs.declared.shot.Shot.{Shot}
 use Rattle.shots.specs.declared.refusal.Refusal.{Refusal}
 use Rattle.shots.proofs.Same.{same_numbers}
@@ -124,3 +125,8 @@ not_image z xs s h w m e p f i =
     let clash : None ≡ Some e = sym (no_fault z) ∙ sym same ∙ f in
     let no : ◌≡◌ {A = ℕ} 0 1 = cc in
     omega arith
+
+-- what becomes of the four numbers that six bytes read as
+pub judged_image : (xs : List ℕ) (s h w m : ℤ) (r : Result Shot Refusal) → length xs ≡ 6 → ((i : ℕ) → Fits w8 (get_or xs i 0)) → Passed xs s h w m → Judged s h w m r → Unpacked xs (result_ok r)
+judged_image xs s h w m (Ok z) k f p j = unpacked z xs s h w m k f p j.1
+judged_image xs s h w m (Err e) k f p j = λ z i. not_image z xs s h w m e p j i

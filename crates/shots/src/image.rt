@@ -24,14 +24,12 @@ impl Shot {
         let [a, b, c, d, weight, stuff] = image;
         let speed = u16::from_be_bytes([a, b]);
         let lead = i16::from_be_bytes([c, d]);
-        match Shot::new(
+        Shot::new(
             i32::from(speed),
             i32::from(lead),
             i32::from(weight),
             i32::from(stuff),
-        ) {
-            Ok(shot) => Some(shot),
-            Err(_) => None,
-        }
+        )
+        .ok()
     }
 }

@@ -1,6 +1,9 @@
 //! Why a call refuses. A case's number and word never change; later cases are added at the end.
-ghost use Rattle.std.specs.Prelude.{◌≡◌};
+ghost use Rattle.std.specs.Prelude.{◌≡◌, Some};
 ghost use Rattle.shots.specs.Refusals.{number_of, word_of};
+
+use std::error::Error;
+use std::fmt;
 
 /// Why a call refuses what it was asked.
 #[derive(Clone, Copy, PartialEq, Eq, Debug)]
@@ -39,19 +42,21 @@ pub enum Refusal {
     Paper = 16,
 }
 
-impl Refusal {
-    /// The number that stands for this refusal in every answer.
-    pub fn number(self) -> u8
-        ensures { result ≡ number_of self }
-    {
-        self as u8
-    }
+impl From<Refusal> for u8 {
+    ghost from_gives = { λ refusal number. number ≡ number_of refusal };
 
-    /// The word that stands for this refusal in print.
-    pub fn word(self) -> &'static str
-        ensures { result.now ≡ word_of self }
-    {
-        match self {
+    /// The number that stands for a refusal in every answer.
+    fn from(refusal: Refusal) -> u8 {
+        refusal as u8
+    }
+}
+
+impl fmt::Display for Refusal {
+    ghost output = { λ refusal. Some (word_of refusal) };
+
+    /// Writes the word that stands for this refusal in print.
+    fn fmt<W: fmt::Write>(&self, f: &mut fmt::Formatter<W>) -> fmt::Result {
+        f.write_str(match self {
             Refusal::Speed => "speed",
             Refusal::Lead => "lead",
             Refusal::Weight => "weight",
@@ -68,6 +73,8 @@ impl Refusal {
             Refusal::Valve => "valve",
             Refusal::Unreadable => "unreadable",
             Refusal::Paper => "paper",
-        }
+        })
     }
 }
+
+impl Error for Refusal {}
