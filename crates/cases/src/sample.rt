@@ -3,8 +3,7 @@ ghost use Rattle.cases.specs.Sample.{SampleLives};
 
 /// There is a life in which a line is laid, moved, proved and issued, is kept in force by one strike
 /// and put out by another: the law of every life is not empty.
-pub fn there_is_a_life() -> u8
+pub fn there_is_a_life()
     ensures { SampleLives }
 {
-    0
 }

@@ -3,16 +3,12 @@ ghost use Rattle.theory.specs.Theorems.{RatesAddUp, RatesAreOneSidedSlopes};
 
 /// Turning a line about one of its points costs at least the point's rate on that side, and exactly
 /// that up to the next key.
-pub fn rates_are_one_sided_slopes() -> u8
+pub fn rates_are_one_sided_slopes()
     ensures { RatesAreOneSidedSlopes }
-{
-    0
-}
+{}
 
 /// The rise and the fall rate of a point add up to the weights of the points on the line, times how
 /// far their speeds are from its own.
-pub fn rates_add_up() -> u8
+pub fn rates_add_up()
     ensures { RatesAddUp }
-{
-    0
-}
+{}

@@ -2,8 +2,6 @@
 ghost use Rattle.theory.specs.Theorems.{TestPassesExactlyWhenCheapest};
 
 /// A line through two speeds passes the test exactly when no line is cheaper.
-pub fn test_passes_exactly_when_cheapest() -> u8
+pub fn test_passes_exactly_when_cheapest()
     ensures { TestPassesExactlyWhenCheapest }
-{
-    0
-}
+{}
