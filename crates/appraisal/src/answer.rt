@@ -95,7 +95,7 @@ impl fmt::Display for Answer {
     fn fmt<W: fmt::Write>(&self, f: &mut fmt::Formatter<W>) -> fmt::Result {
         match *self {
             Answer::Refused { refusal, line } => {
-                let number = refusal.number();
+                let number = u8::from(refusal);
                 write!(f, "no\t{number}\t{line}")
             }
             Answer::Judged { place, side, miss } => {

@@ -40,7 +40,7 @@ impl Reply {
         ensures { result ≡ reply_number self }
     {
         match self {
-            Reply::Refused(refusal) => Some(refusal.number()),
+            Reply::Refused(refusal) => Some(u8::from(refusal)),
             _ => None,
         }
     }
@@ -65,7 +65,7 @@ impl fmt::Display for Reply {
                 write!(f, "pass\t{a}\t{b}\t{c}")
             }
             Reply::Refused(refusal) => {
-                let number = refusal.number();
+                let number = u8::from(refusal);
                 write!(f, "no\t{number}")
             }
         }

@@ -1,4 +1,3 @@
 pub mod Turns
 pub mod Slipping
 pub mod Living
-pub mod Sample

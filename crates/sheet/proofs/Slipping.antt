@@ -1,11 +1,11 @@
 -- What a slip answers and writes, by the line in force; and that no table need have more than 512 rows.
-use Rattle.std.proofs.Common.{◌≡◌, ℕ, ◌<◌, ◌≤◌, min, List, length, take, Some, Option, Result, sym, refl, subst₂, inl, inr, ⊎_elim, arith}
+use Rattle.std.proofs.Common.{◌≡◌, ℕ, ◌≤◌, min, List, length, take, Some, None, Option, ok_or, Result, sym, refl, subst₂, inl, inr, ⊎_elim, arith}
 use Rattle.std.proofs.lemmas.List.{length-take}
 use Rattle.shots.specs.declared.shot.Shot.{Shot}
 use Rattle.shots.specs.declared.refusal.Refusal.{Refusal}
 use Rattle.shots.specs.declared.refusal.Refusal.TheVariants.{SlipShort}
 use Rattle.lines.specs.declared.line.Line.{Line}
-use Rattle.slips.specs.Rows.{on_line}
+use Rattle.slips.specs.Rows.{Written}
 use Rattle.slips.specs.declared.row.Row.{Row}
 use Rattle.slips.proofs.Counts.{few}
 use Rattle.law.specs.declared.kinds.Call.TheVariants.{Slip}
@@ -17,16 +17,19 @@ use Rattle.law.specs.Replies.{SlipReplies}
 use Rattle.law.specs.Ties.{Called, Life}
 use Rattle.law.specs.Views.{View, in_force}
 use Rattle.law.proofs.Steps.{called}
-use Rattle.sheet.specs.Sheets.{SlipWrites}
+use Rattle.sheet.specs.Sheets.{slip_reply, SlipWrites}
 
 replies : (v : View) (rows : ℕ) (r : Reply) → SlipReplies v.held (in_force v.stage) rows r → Called (Slip rows) r v v
 replies v rows r h = called (record { room = refl; prices = refl; turned = (h, (refl, refl)) })
 
-pub written : (v : View) (rows k : ℕ) (l : Line) → in_force v.stage ≡ Some l → k ≡ on_line l v.held → k ≤ rows → Called (Slip rows) (Slipped k) v v
-written v rows k l e n h = replies v rows (Slipped k) (l, e, n, h)
+-- the answer, by what was written
+pub slipped : (v : View) (before after : List Row) (l : Line) (o : Option ℕ) → in_force v.stage ≡ Some l → Written v.tariff l v.held before o after → Called (Slip (length before)) (slip_reply (ok_or o SlipShort)) v v
+slipped v before after l (Some k) e h = replies v (length before) (Slipped k) (l, e, h.0, h.1)
+slipped v before after l None e h = replies v (length before) (Refused SlipShort) (inr (l, e, h.0, refl))
 
-pub short : (v : View) (rows : ℕ) (l : Line) → in_force v.stage ≡ Some l → rows < on_line l v.held → Called (Slip rows) (Refused SlipShort) v v
-short v rows l e h = replies v rows (Refused SlipShort) (inr (l, e, h, refl))
+pub writes : (v : View) (before after : List Row) (l : Line) (o : Option ℕ) → in_force v.stage ≡ Some l → Written v.tariff l v.held before o after → SlipWrites v.tariff v.held (in_force v.stage) before (ok_or o SlipShort) after
+writes v before after l (Some k) e h = (l, e, h.2)
+writes v before after l None e h = h.1
 
 -- what is written, in the words of a life that led to the sheet
 pub in_life : (past : List Moment) (v : View) (before : List Row) (r : Result ℕ Refusal) (after : List Row) → SlipWrites v.tariff v.held (in_force v.stage) before r after → Life past v → SlipWrites v.tariff (held_by past) (in_force_by past) before r after

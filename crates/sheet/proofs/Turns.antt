@@ -1,5 +1,5 @@
 -- What the calls of a sheet bring to their turns.
-use Rattle.std.proofs.Common.{◌≡◌, ℕ, List, ℤ, pos, None, Ok, Err, Result, sym, refl, ap, ◌∙◌, subst, arith}
+use Rattle.std.proofs.Common.{◌≡◌, ℕ, List, ℤ, pos, Some, None, Option, IsSome, Ok, Err, Result, sym, refl, ap, ◌∙◌, subst, arith, rules}
 use Rattle.std.proofs.lemmas.Int.{ints}
 use Rattle.shots.specs.declared.shot.Shot.{Shot}
 use Rattle.shots.specs.declared.refusal.Refusal.{Refusal}
@@ -24,14 +24,15 @@ use Rattle.law.proofs.Steps.{called}
 use Rattle.sheet.specs.Sheets.{mount_reply, Judged}
 
 -- a place that fails has a turned line
-pub some_turn : (tariff : ℤ → ℕ × ℕ) (l : Line) (xs : List Shot) (k : ℕ) (p : ℤ) → p ≡ pos k → First tariff l xs k → Descends tariff xs p None → ⊥
-some_turn tariff l xs k p e f d =
+pub is_turned : (tariff : ℤ → ℕ × ℕ) (l : Line) (xs : List Shot) (k : ℕ) (p : ℤ) (r : Option Line) → p ≡ pos k → First tariff l xs k → Descends tariff xs p r → IsSome r
+is_turned tariff l xs k p (Some m) e f d = search rules
+is_turned tariff l xs k p None e f d =
     let i = f.inside in
     let holds : Holds xs (pos k) = (omega (arith, ints), omega (arith, ints)) in
     let at : Descends tariff xs (pos k) None = subst (λ q. Descends tariff xs q None) e d in
     let m = at f.shot holds f.is l f.fails.0 f.fails.1 in
     let n : ◌≡◌ {A = ℕ} 0 1 = cc m.1 in
-    omega arith
+    absurd (omega arith)
 
 mount_replies : (tariff : ℤ → ℕ × ℕ) (xs : List Shot) (a b : ℤ) (r : Result ℤ Refusal) → OffsetOf tariff a b xs r → MountReplies tariff xs a b (mount_reply r)
 mount_replies tariff xs a b (Ok c) h = h

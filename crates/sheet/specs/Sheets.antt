@@ -1,8 +1,7 @@
 -- A sheet as its calls see it, and their results as answers.
 --   sees         what is seen of a sheet through the meanings of its rack and its rule
 --   done_reply, pivot_reply, mount_reply, slip_reply, issue_reply   the answer that a call's result is
---   accepted     whether a change was accepted, without the stage that follows
---   Follows      what is so of the stage that follows an accepted change
+--   reply_of     the answer, or the refusal as one
 --   Judged       what the test says of a line that is tried
 --   SlipWrites   what a slip writes into a table: the rows of the shots on the line in force, and no more; a
 --                refused one writes nothing
@@ -52,13 +51,9 @@ abbrev pub line_on : Result Pass Refusal → Option Line
 line_on (Ok p) = Some p.line
 line_on (Err e) = None
 
-abbrev pub accepted : Result Stage Refusal → Result (Unit {0}) Refusal
-accepted (Ok t) = Ok tt
-accepted (Err e) = Err e
-
-abbrev pub Follows : (Stage → Type 0) → Result Stage Refusal → Type 0
-Follows P (Ok t) = P t
-Follows P (Err e) = Unit {0}
+abbrev pub reply_of : Result Reply Refusal → Reply
+reply_of (Ok r) = r
+reply_of (Err e) = Refused e
 
 abbrev pub Judged : (ℤ → ℕ × ℕ) → List Shot → Stage → Outcome → Type 0
 Judged tariff xs Bare o = Unit {0}

@@ -6,13 +6,13 @@ ghost use Rattle.law.specs.declared.kinds.Moment.{Moment as Then};
 ghost use Rattle.law.specs.Ties.{Called, Life};
 ghost use Rattle.law.specs.Views.{in_force};
 ghost use Rattle.sheet.specs.Living.{Lives};
-ghost use Rattle.sheet.specs.Sheets.{sees};
+ghost use Rattle.sheet.specs.Sheets.{sees, reply_of, slip_reply};
 
 use crate::sheet::Sheet;
-use law::{Call, Moment, Reply};
+use law::{Call, Moment, Pivoted, Reply};
 use lines::Line;
 use racks::{MOST_SHOTS, Rack, is_empty};
-use shots::PriceRule;
+use shots::{PriceRule, Refusal};
 use slips::Row;
 
 /// A rack and a rule after a life on them.
@@ -65,8 +65,8 @@ fn run<R: Rack, P: PriceRule>(sheet: &mut Sheet<R, P>, calls: &[Call], moments: 
     ensures room { R.Rack.capacity sheet.new.rack ≡ R.Rack.capacity sheet.old.rack }
     ensures rule { sheet.new.rule ≡ sheet.old.rule }
 {
-    for i in 0..calls.len() {
-        moments[i] = perform(sheet, calls[i]);
+    for (i, call) in calls.iter().enumerate() {
+        moments[i] = perform(sheet, *call);
     }
 }
 
@@ -83,63 +83,59 @@ pub fn perform<R: Rack, P: PriceRule>(sheet: &mut Sheet<R, P>, call: Call) -> Mo
     Moment { call, reply, pass }
 }
 
-// Makes one call.
+// Makes one call, and tells the answer or the refusal.
 fn make<R: Rack, P: PriceRule>(sheet: &mut Sheet<R, P>, call: Call) -> Reply
     ensures called { Called call result (sees R.Rack.held R.Rack.capacity P.PriceRule.tariff sheet.old) (sees R.Rack.held R.Rack.capacity P.PriceRule.tariff sheet.new) }
     ensures rule { sheet.new.rule ≡ sheet.old.rule }
 {
-    match call {
+    answer(sheet, call).unwrap_or_else(Reply::Refused)
+}
+
+// Makes one call.
+fn answer<R: Rack, P: PriceRule>(sheet: &mut Sheet<R, P>, call: Call) -> Result<Reply, Refusal>
+    ensures called { Called call (reply_of result) (sees R.Rack.held R.Rack.capacity P.PriceRule.tariff sheet.old) (sees R.Rack.held R.Rack.capacity P.PriceRule.tariff sheet.new) }
+    ensures rule { sheet.new.rule ≡ sheet.old.rule }
+{
+    Ok(match call {
         Call::Add {
             speed,
             lead,
             weight,
             stuff,
-        } => match sheet.add(speed, lead, weight, stuff) {
-            Ok(()) => Reply::Done,
-            Err(refusal) => Reply::Refused(refusal),
-        },
-        Call::Strike { place } => match sheet.strike(place) {
-            Ok(()) => Reply::Done,
-            Err(refusal) => Reply::Refused(refusal),
-        },
-        Call::Pivot => match sheet.pivot() {
-            Ok(pivoted) => Reply::Told(pivoted.word, pivoted.priced),
-            Err(refusal) => Reply::Refused(refusal),
-        },
-        Call::Mount { a, b } => match sheet.mount(a, b) {
-            Ok(offset) => Reply::Mounted(offset),
-            Err(refusal) => Reply::Refused(refusal),
-        },
-        Call::Slip { rows } => slip_of(sheet, rows),
-        Call::Issue => match sheet.issue() {
-            Ok(pass) => Reply::Issued(pass.give_up()),
-            Err(refusal) => Reply::Refused(refusal),
-        },
-    }
+        } => {
+            sheet.add(speed, lead, weight, stuff)?;
+            Reply::Done
+        }
+        Call::Strike { place } => {
+            sheet.strike(place)?;
+            Reply::Done
+        }
+        Call::Pivot => {
+            let Pivoted { word, priced } = sheet.pivot()?;
+            Reply::Told(word, priced)
+        }
+        Call::Mount { a, b } => Reply::Mounted(sheet.mount(a, b)?),
+        Call::Slip { rows } => Reply::Slipped(rows_of_slip(sheet, rows)?),
+        Call::Issue => Reply::Issued(sheet.issue()?.give_up()),
+    })
 }
 
 // The line for which issue answers a pass now.
 fn line_in_force<R: Rack, P: PriceRule>(sheet: &Sheet<R, P>) -> Option<Line>
     ensures { result ≡ in_force sheet.now.inner.stage }
 {
-    match sheet.issue() {
-        Ok(pass) => Some(pass.give_up()),
-        Err(_) => None,
-    }
+    Some(sheet.issue().ok()?.give_up())
 }
 
-// Makes a slip with this many rows. No rack holds more than 512 shots, so a table of 512 rows stands
-// in for any longer one.
-fn slip_of<R: Rack, P: PriceRule>(sheet: &Sheet<R, P>, rows: usize) -> Reply
-    ensures { Called (Slip rows) result (sees R.Rack.held R.Rack.capacity P.PriceRule.tariff sheet.now) (sees R.Rack.held R.Rack.capacity P.PriceRule.tariff sheet.now) }
+// How many rows a slip writes into a table of so many. No rack holds more than 512 shots, so a table of
+// 512 rows stands in for any longer one.
+fn rows_of_slip<R: Rack, P: PriceRule>(sheet: &Sheet<R, P>, rows: usize) -> Result<usize, Refusal>
+    ensures { Called (Slip rows) (slip_reply result) (sees R.Rack.held R.Rack.capacity P.PriceRule.tariff sheet.now) (sees R.Rack.held R.Rack.capacity P.PriceRule.tariff sheet.now) }
 {
     let mut table = [Row {
         place: 0,
         rise: 0,
         fall: 0,
     }; MOST_SHOTS];
-    match sheet.slip(&mut table[..rows.min(MOST_SHOTS)]) {
-        Ok(count) => Reply::Slipped(count),
-        Err(refusal) => Reply::Refused(refusal),
-    }
+    sheet.slip(&mut table[..rows.min(MOST_SHOTS)])
 }

@@ -11,12 +11,11 @@ ghost use Rattle.sheet.specs.Sheets.{sees, done_reply, pivot_reply, mount_reply,
 ghost use Rattle.law.specs.Views.{in_force};
 ghost use Rattle.fit.specs.Offsets.{OffsetBest};
 
-use crate::changing::{add_shot, strike_shot};
 use crate::inner::Inner;
 use crate::pass::Pass;
-use crate::turning::{outcome, told, turned_at};
 use fit::{Outcome, first_line, offset};
 use law::{Pivoted, Stage, Word};
+use lines::Line;
 use racks::Rack;
 use shots::{PriceRule, Refusal};
 use slips::{Row, write_rows};
@@ -26,9 +25,9 @@ use slips::{Row, write_rows};
 /// rule.
 #[derive(Drop)]
 pub struct Sheet<R, P> {
-    rack: R,
-    rule: P,
-    inner: Inner,
+    pub(crate) rack: R,
+    pub(crate) rule: P,
+    pub(crate) inner: Inner,
 }
 
 impl<R: Rack, P: PriceRule> Sheet<R, P> {
@@ -65,22 +64,9 @@ impl<R: Rack, P: PriceRule> Sheet<R, P> {
         ensures called { Called (Add speed lead weight stuff) (done_reply result) (sees R.Rack.held R.Rack.capacity P.PriceRule.tariff self.old) (sees R.Rack.held R.Rack.capacity P.PriceRule.tariff self.new) }
         ensures rule { self.new.rule ≡ self.old.rule }
     {
-        let stage = self.inner.stage;
-        match add_shot(
-            &mut self.rack,
-            &self.rule,
-            stage,
-            speed,
-            lead,
-            weight,
-            stuff,
-        ) {
-            Ok(stage) => {
-                self.inner.stage = stage;
-                Ok(())
-            }
-            Err(refusal) => Err(refusal),
-        }
+        self.rack.add(speed, lead, weight, stuff)?;
+        self.inner.stage = self.after_add();
+        Ok(())
     }
 
     /// Takes the shot at a place out, and later shots move down one; refused by `Place`, which leaves
@@ -90,13 +76,9 @@ impl<R: Rack, P: PriceRule> Sheet<R, P> {
         ensures called { Called (Strike place) (done_reply result) (sees R.Rack.held R.Rack.capacity P.PriceRule.tariff self.old) (sees R.Rack.held R.Rack.capacity P.PriceRule.tariff self.new) }
         ensures rule { self.new.rule ≡ self.old.rule }
     {
-        match strike_shot(&mut self.rack, &self.rule, self.inner.stage, place) {
-            Ok(stage) => {
-                self.inner.stage = stage;
-                Ok(())
-            }
-            Err(refusal) => Err(refusal),
-        }
+        self.rack.strike(place)?;
+        self.inner.stage = self.after_strike();
+        Ok(())
     }
 
     /// Answers by the stage and by what the test says. Bare: lays the first line, now trying; refused by
@@ -108,26 +90,22 @@ impl<R: Rack, P: PriceRule> Sheet<R, P> {
         ensures rack { self.new.rack ≡ self.old.rack }
         ensures rule { self.new.rule ≡ self.old.rule }
     {
-        let outcome = outcome(&self.rack, &self.rule, self.inner.stage);
-        let found = (self.inner.stage, outcome);
-        match found {
-            (Stage::Bare, _) => match first_line(&self.rack) {
-                Some(line) => {
-                    self.inner.stage = Stage::Trying(line);
-                    Ok(told(&self.rack, &self.rule, Word::Laid, line))
-                }
-                None => Err(Refusal::OneSpeed),
-            },
+        match (self.inner.stage, self.outcome()) {
+            (Stage::Bare, _) => {
+                let line = first_line(&self.rack).ok_or(Refusal::OneSpeed)?;
+                self.inner.stage = Stage::Trying(line);
+                Ok(self.told(Word::Laid, line))
+            }
             (Stage::Trying(line), Outcome::FailsAt(place)) => {
-                let turned = turned_at(&self.rack, &self.rule, line, place);
+                let turned = self.turned_at(line, place);
                 self.inner.stage = Stage::Trying(turned);
-                Ok(told(&self.rack, &self.rule, Word::Moved, turned))
+                Ok(self.told(Word::Moved, turned))
             }
             (Stage::Trying(line), Outcome::Passes) => {
                 self.inner.stage = Stage::InForce(line);
-                Ok(told(&self.rack, &self.rule, Word::Proved, line))
+                Ok(self.told(Word::Proved, line))
             }
-            (Stage::InForce(line), _) => Ok(told(&self.rack, &self.rule, Word::Stands, line)),
+            (Stage::InForce(line), _) => Ok(self.told(Word::Stands, line)),
         }
     }
 
@@ -149,14 +127,8 @@ impl<R: Rack, P: PriceRule> Sheet<R, P> {
         ensures rows { SlipWrites (P.PriceRule.tariff self.now.rule) (R.Rack.held self.now.rack) (in_force self.now.inner.stage) table.old result table.new }
         ensures life { (past : List Then) → Life past (sees R.Rack.held R.Rack.capacity P.PriceRule.tariff self.now) → SlipWrites (P.PriceRule.tariff self.now.rule) (held_by past) (in_force_by past) table.old result table.new }
     {
-        match self.inner.stage {
-            Stage::InForce(line) => match write_rows(&self.rack, &self.rule, line, table) {
-                Some(count) => Ok(count),
-                None => Err(Refusal::SlipShort),
-            },
-            Stage::Bare => Err(Refusal::Idle),
-            Stage::Trying(_) => Err(Refusal::Idle),
-        }
+        let line = self.in_force().ok_or(Refusal::Idle)?;
+        write_rows(&self.rack, &self.rule, line, table).ok_or(Refusal::SlipShort)
     }
 
     /// A pass with the line in force; refused by `Idle` where none is.
@@ -164,10 +136,17 @@ impl<R: Rack, P: PriceRule> Sheet<R, P> {
         ensures called { Called Issue (issue_reply result) (sees R.Rack.held R.Rack.capacity P.PriceRule.tariff self.now) (sees R.Rack.held R.Rack.capacity P.PriceRule.tariff self.now) }
         ensures line { line_on result ≡ in_force self.now.inner.stage }
     {
+        let line = self.in_force().ok_or(Refusal::Idle)?;
+        Ok(Pass { line })
+    }
+
+    // The line in force, if one is.
+    fn in_force(&self) -> Option<Line>
+        ensures { result ≡ in_force self.now.inner.stage }
+    {
         match self.inner.stage {
-            Stage::InForce(line) => Ok(Pass { line }),
-            Stage::Bare => Err(Refusal::Idle),
-            Stage::Trying(_) => Err(Refusal::Idle),
+            Stage::InForce(line) => Some(line),
+            _ => None,
         }
     }
 }

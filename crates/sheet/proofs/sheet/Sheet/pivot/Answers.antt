@@ -1,31 +1,34 @@
 -- `pivot`: one answer for each pair of a stage and what the test says.
-use Rattle.std.proofs.Common.{refl}
+use Rattle.std.proofs.Common.{◌≡◌, Some, refl, subst, arith}
+use Rattle.fit.specs.First.{FirstLine}
 use Rattle.law.specs.declared.kinds.Word.TheVariants.{Laid, Moved, Proved, Stands}
 use Rattle.law.specs.declared.stage.Stage.TheVariants.{Bare, Trying, InForce}
 use Rattle.sheet.proofs.Turns.{tells, found}
 use Rattle.sheet.proofs.sheet.Sheet.pivot.Goals as goal
 
-pub returns-in-Some : goal.returns-in-Some
-returns-in-Some g c =
+pub returns-in_ok-line-in-Bare-default-clause-called : goal.returns-in_ok-line-in-Bare-default-clause-called
+returns-in_ok-line-in-Bare-default-clause-called g c =
     let h = c.told.ensures in
-    record { called = tells _ _ Bare c.told.result Laid _ c.in-Bare-default.is-0 h.word h.line h.total (c.in-Some.ensures, refl); rack = refl; rule = refl }
+    let e : c.first_line.result ≡ Some c.in_ok-line-in-Bare-default.line = grind arith in
+    let laid = subst (FirstLine (g.R.Rack.held c.args.self.now.rack)) e c.first_line.ensures in
+    tells _ _ Bare c.told.result Laid _ c.in-Bare-default.is-0 h.word h.line h.total (laid, refl)
 
-pub returns-in-Trying-FailsAt : goal.returns-in-Trying-FailsAt
-returns-in-Trying-FailsAt g c =
+pub returns-in-Trying-FailsAt-clause-called : goal.returns-in-Trying-FailsAt-clause-called
+returns-in-Trying-FailsAt-clause-called g c =
     let h = c.told-in-Trying-FailsAt.ensures in
     let i = c.in-Trying-FailsAt in
-    let first = found (g.P.PriceRule.tariff c.args.self.now.rule) (g.R.Rack.held c.args.self.now.rack) _ _ i.line _ c.outcome-outcome.ensures i.is-0 i.is-1 in
-    record { called = tells _ _ (Trying i.line) c.told-in-Trying-FailsAt.result Moved _ i.is-0 h.word h.line h.total (i.place, first, c.turned_at-turned.ensures, refl); rack = refl; rule = refl }
+    let first = found (g.P.PriceRule.tariff c.args.self.now.rule) (g.R.Rack.held c.args.self.now.rack) _ _ i.line _ c.outcome.ensures i.is-0 i.is-1 in
+    tells _ _ (Trying i.line) c.told-in-Trying-FailsAt.result Moved _ i.is-0 h.word h.line h.total (i.place, first, c.turned_at-turned.ensures, refl)
 
-pub returns-in-Trying-Passes : goal.returns-in-Trying-Passes
-returns-in-Trying-Passes g c =
+pub returns-in-Trying-Passes-clause-called : goal.returns-in-Trying-Passes-clause-called
+returns-in-Trying-Passes-clause-called g c =
     let h = c.told-in-Trying-Passes.ensures in
     let i = c.in-Trying-Passes in
-    let passes = found (g.P.PriceRule.tariff c.args.self.now.rule) (g.R.Rack.held c.args.self.now.rack) _ _ i.line _ c.outcome-outcome.ensures i.is-0 i.is-1 in
-    record { called = tells _ _ (Trying i.line) c.told-in-Trying-Passes.result Proved _ i.is-0 h.word h.line h.total (passes, refl, refl); rack = refl; rule = refl }
+    let passes = found (g.P.PriceRule.tariff c.args.self.now.rule) (g.R.Rack.held c.args.self.now.rack) _ _ i.line _ c.outcome.ensures i.is-0 i.is-1 in
+    tells _ _ (Trying i.line) c.told-in-Trying-Passes.result Proved _ i.is-0 h.word h.line h.total (passes, refl, refl)
 
-pub returns-in-InForce-default : goal.returns-in-InForce-default
-returns-in-InForce-default g c =
+pub returns-in-InForce-default-clause-called : goal.returns-in-InForce-default-clause-called
+returns-in-InForce-default-clause-called g c =
     let h = c.told-in-InForce-default.ensures in
     let i = c.in-InForce-default in
-    record { called = tells _ _ (InForce i.line) c.told-in-InForce-default.result Stands _ i.is-0 h.word h.line h.total (refl, i.is-0); rack = refl; rule = refl }
+    tells _ _ (InForce i.line) c.told-in-InForce-default.result Stands _ i.is-0 h.word h.line h.total (refl, i.is-0)
