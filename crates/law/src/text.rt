@@ -3,7 +3,6 @@ ghost use Rattle.std.specs.Prelude.{◌≡◌, Some};
 ghost use Rattle.law.specs.Words.{word_of, reply_word, reply_number, reply_text};
 
 use crate::kinds::{Reply, Word};
-use lines::{Line, PricedLine};
 use std::fmt;
 
 impl Word {
@@ -54,16 +53,11 @@ impl fmt::Display for Reply {
             Reply::Done => f.write_str("ok"),
             Reply::Told(word, priced) => {
                 let word = word.text();
-                let PricedLine { line, total } = priced;
-                let Line { a, b, c } = line;
-                write!(f, "{word}\t{a}\t{b}\t{c}\t{total}")
+                write!(f, "{word}\t{priced}")
             }
             Reply::Mounted(offset) => write!(f, "mount\t{offset}"),
             Reply::Slipped(rows) => write!(f, "slip\t{rows}"),
-            Reply::Issued(line) => {
-                let Line { a, b, c } = line;
-                write!(f, "pass\t{a}\t{b}\t{c}")
-            }
+            Reply::Issued(line) => write!(f, "pass\t{line}"),
             Reply::Refused(refusal) => {
                 let number = u8::from(refusal);
                 write!(f, "no\t{number}")
