@@ -9,6 +9,7 @@ use Rattle.std.specs.Option.{option_or}
 use Rattle.shots.specs.Ranges.{is_speed, is_lead, is_weight, is_stuff}
 use Rattle.shots.specs.Shots.{fault, Reads}
 use Rattle.shots.specs.declared.shot.Shot.{Shot}
+use Rattle.shots.specs.declared.entry.Entry.{Entry}
 use Rattle.shots.specs.declared.refusal.Refusal.{Refusal}
 use Rattle.shots.specs.declared.refusal.Refusal.TheVariants.{Speed, Lead, Weight, Stuff, Full}
 use Rattle.shots.proofs.Same.{same_numbers}
@@ -50,20 +51,23 @@ turned h m f e =
     (λ lt. negated h m (e ∙ wrapping_neg_is w32 h f ∙ int_wrap_fits w32 (neg_ℤ h) (omega (arith, ints, lt))))
     (λ le. let least : h ≡ negsuc 2147483647 = omega (arith, ints, le) in kept h m least (e ∙ ap (int_wrapping_neg w32) least))
 
--- m is what the rack below is given for the lead h
-module _ (s h m w k : ℤ) (range : is_lead m ≡ is_lead h) (value : is_lead h ≡ true → m ≡ neg_ℤ h) where
-  same_fault : (cap : ℕ) (xs : List Shot) → add_fault cap (map flipped xs) s h w k ≡ add_fault cap xs s m w k
-  same_fault cap xs =
-      ap (λ n. option_or (fault s h w k) (cond (ltb n cap) None (Some Full))) (length-map xs flipped)
-      ∙ ap (λ b. option_or (cond (is_speed s) (cond b (cond (is_weight w) (cond (is_stuff k) None (Some Stuff)) (Some Weight)) (Some Lead)) (Some Speed)) (cond (ltb (length xs) cap) None (Some Full))) (sym range)
+-- m is what the rack below is given for the lead of n
+module _ (n : Entry) (m : ℤ) (range : is_lead m ≡ is_lead n.lead) (value : is_lead n.lead ≡ true → m ≡ neg_ℤ n.lead) where
+  abbrev given : Entry
+  given = record { speed = n.speed; lead = m; weight = n.weight; stuff = n.stuff }
 
-  reads_flips : (z : Shot) → Reads z s m w k → Reads (flipped z) s h w k
+  same_fault : (cap : ℕ) (xs : List Shot) → add_fault cap (map flipped xs) n ≡ add_fault cap xs given
+  same_fault cap xs =
+      ap (λ k. option_or (fault n) (cond (ltb k cap) None (Some Full))) (length-map xs flipped)
+      ∙ ap (λ b. option_or (cond (is_speed n.speed) (cond b (cond (is_weight n.weight) (cond (is_stuff n.stuff) None (Some Stuff)) (Some Weight)) (Some Lead)) (Some Speed)) (cond (ltb (length xs) cap) None (Some Full))) (sym range)
+
+  reads_flips : (z : Shot) → Reads z given → Reads (flipped z) n
   reads_flips z r =
       let good : is_lead z.lead ≡ true = grind (arith, ints) in
-      let turned : m ≡ neg_ℤ h = value (sym range ∙ ap is_lead (sym r.lead) ∙ good) in
-      record { speed = r.speed; lead = ap neg_ℤ (r.lead ∙ turned) ∙ neg_ℤ-neg_ℤ h; weight = r.weight; stuff = r.stuff }
+      let turned : m ≡ neg_ℤ n.lead = value (sym range ∙ ap is_lead (sym r.lead) ∙ good) in
+      record { speed = r.speed; lead = ap neg_ℤ (r.lead ∙ turned) ∙ neg_ℤ-neg_ℤ n.lead; weight = r.weight; stuff = r.stuff }
 
-  pub added_flips : (cap : ℕ) (xs ys : List Shot) (r : Result (Unit {0}) Refusal) → Added cap xs s m w k r ys → Added cap (map flipped xs) s h w k r (map flipped ys)
+  pub added_flips : (cap : ℕ) (xs ys : List Shot) (r : Result (Unit {0}) Refusal) → Added cap xs given r ys → Added cap (map flipped xs) n r (map flipped ys)
   added_flips cap xs ys (Ok u) a =
       let z = a.1.0 in
       (same_fault cap xs ∙ a.0, (flipped z, reads_flips z a.1.1, ap (map flipped) a.1.2 ∙ map_push flipped xs z))

@@ -6,6 +6,7 @@ use Rattle.std.specs.List.{remove}
 use Rattle.std.specs.Result.{result_ok}
 use Rattle.shots.specs.Shots.{fault, Reads}
 use Rattle.shots.specs.declared.shot.Shot.{Shot}
+use Rattle.shots.specs.declared.entry.Entry.{Entry}
 use Rattle.shots.specs.declared.refusal.Refusal.{Refusal}
 use Rattle.shots.specs.declared.refusal.Refusal.TheVariants.{Full}
 use Rattle.racks.specs.Racks.{Holds, Index, Read, Added, Struck}
@@ -28,8 +29,8 @@ read_below xs n (Err f) z few h read e = absurd cc
 pub struck_at : (xs ys : List Shot) (p : ℤ) (n i : ℕ) → length xs ≡ n → Index p n (Ok i) → ys ≡ remove xs i → Struck xs p (Ok tt) ys
 struck_at xs ys p n i e at is = (held_at xs p n i e at, at_place (remove xs) ys p i at.0 is)
 
-pub added_end : (cap : ℕ) (xs ys : List Shot) (n : ℕ) (s h w m : ℤ) (z : Shot) → length xs ≡ n → n < cap → (fault s h w m ≡ None) × Reads z s h w m → ys ≡ xs ++ z ∷ [] → Added cap xs s h w m (Ok tt) ys
-added_end cap xs ys n s h w m z e lt made is = (grind arith, (z, made.1, is))
+pub added_end : (cap : ℕ) (xs ys : List Shot) (n : ℕ) (entry : Entry) (z : Shot) → length xs ≡ n → n < cap → (fault entry ≡ None) × Reads z entry → ys ≡ xs ++ z ∷ [] → Added cap xs entry (Ok tt) ys
+added_end cap xs ys n entry z e lt made is = (grind arith, (z, made.1, is))
 
-pub added_full : (cap : ℕ) (xs : List Shot) (n : ℕ) (s h w m : ℤ) → length xs ≡ n → cap ≤ n → fault s h w m ≡ None → Added cap xs s h w m (Err Full) xs
-added_full cap xs n s h w m e le made = (grind arith, refl)
+pub added_full : (cap : ℕ) (xs : List Shot) (n : ℕ) (entry : Entry) → length xs ≡ n → cap ≤ n → fault entry ≡ None → Added cap xs entry (Err Full) xs
+added_full cap xs n entry e le made = (grind arith, refl)

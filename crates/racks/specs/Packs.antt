@@ -13,6 +13,7 @@ use Rattle.std.specs.Int.{int_min, int_max, w16}
 use Rattle.shots.specs.Images.{image_of}
 use Rattle.shots.specs.Shots.{Reads}
 use Rattle.shots.specs.declared.shot.Shot.{Shot}
+use Rattle.shots.specs.declared.entry.Entry.{Entry}
 use Rattle.shots.specs.declared.refusal.Refusal.{Refusal}
 use Rattle.racks.specs.Bounds.{least, most, lead_least, lead_most}
 use Rattle.racks.specs.Shifts.{moved_down}
@@ -44,9 +45,9 @@ shots_of_bytes (suc n) bs = shot_of_bytes (take 6 bs) ∷ shots_of_bytes n (drop
 abbrev pub places : List ℕ → ℕ
 places bs = min 512 (length bs / 6)
 
-abbrev pub Stored : ℕ → List ℕ → ℤ → ℤ → ℤ → ℤ → Result (Unit {0}) Refusal → List ℕ → Type 0
-Stored n bs s h w m (Ok _) after = (z : Shot) × Reads z s h w m × (after ≡ take (6 * n) bs ++ image_of z ++ drop (6 * (n + 1)) bs)
-Stored n bs s h w m (Err _) after = after ≡ bs
+abbrev pub Stored : ℕ → List ℕ → Entry → Result (Unit {0}) Refusal → List ℕ → Type 0
+Stored n bs entry (Ok _) after = (z : Shot) × Reads z entry × (after ≡ take (6 * n) bs ++ image_of z ++ drop (6 * (n + 1)) bs)
+Stored n bs entry (Err _) after = after ≡ bs
 
 abbrev pub Closed : ℕ → List ℕ → ℤ → Result (Unit {0}) Refusal → List ℕ → Type 0
 Closed n bs p (Ok _) after = after ≡ moved_down (6 * unsigned_abs p) (6 * (unsigned_abs p + 1)) (6 * n) bs

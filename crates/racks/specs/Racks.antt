@@ -12,6 +12,7 @@ use Rattle.std.specs.List.{remove}
 use Rattle.std.specs.Option.{option_or}
 use Rattle.shots.specs.Shots.{fault, Reads}
 use Rattle.shots.specs.declared.shot.Shot.{Shot}
+use Rattle.shots.specs.declared.entry.Entry.{Entry}
 use Rattle.shots.specs.declared.refusal.Refusal.{Refusal}
 use Rattle.shots.specs.declared.refusal.Refusal.TheVariants.{Full, Place}
 
@@ -27,12 +28,12 @@ Read xs p (Ok z) = Holds xs p × (z ≡ slice_index_or xs (unsigned_abs p) z)
 Read xs p (Err e) = (Holds xs p → ⊥) × (e ≡ Place)
 
 -- cap is how many shots the rack can hold
-abbrev pub add_fault : ℕ → List Shot → ℤ → ℤ → ℤ → ℤ → Option Refusal
-add_fault cap xs s h w m = option_or (fault s h w m) (cond (nat_lt (length xs) cap) None (Some Full))
+abbrev pub add_fault : ℕ → List Shot → Entry → Option Refusal
+add_fault cap xs entry = option_or (fault entry) (cond (nat_lt (length xs) cap) None (Some Full))
 
-abbrev pub Added : ℕ → List Shot → ℤ → ℤ → ℤ → ℤ → Result (Unit {0}) Refusal → List Shot → Type 0
-Added cap xs s h w m (Ok _) ys = (add_fault cap xs s h w m ≡ None) × ((z : Shot) × Reads z s h w m × (ys ≡ xs ++ z ∷ []))
-Added cap xs s h w m (Err e) ys = (add_fault cap xs s h w m ≡ Some e) × (ys ≡ xs)
+abbrev pub Added : ℕ → List Shot → Entry → Result (Unit {0}) Refusal → List Shot → Type 0
+Added cap xs entry (Ok _) ys = (add_fault cap xs entry ≡ None) × ((z : Shot) × Reads z entry × (ys ≡ xs ++ z ∷ []))
+Added cap xs entry (Err e) ys = (add_fault cap xs entry ≡ Some e) × (ys ≡ xs)
 
 abbrev pub Struck : List Shot → ℤ → Result (Unit {0}) Refusal → List Shot → Type 0
 Struck xs p (Ok _) ys = Holds xs p × (ys ≡ remove xs (unsigned_abs p))

@@ -7,15 +7,16 @@
 use Rattle.std.specs.Prelude.{◌≡◌, ℕ, ◌+◌, min, List, length, ℤ, Ok, Err, Result, slice_set, unsigned_abs}
 use Rattle.shots.specs.Shots.{Reads}
 use Rattle.shots.specs.declared.shot.Shot.{Shot}
+use Rattle.shots.specs.declared.entry.Entry.{Entry}
 use Rattle.shots.specs.declared.refusal.Refusal.{Refusal}
 use Rattle.racks.specs.Shifts.{moved_down}
 
 abbrev pub room : List Shot → ℕ
 room rs = min 512 (length rs)
 
-abbrev pub Stored : ℕ → List Shot → ℤ → ℤ → ℤ → ℤ → Result (Unit {0}) Refusal → List Shot → Type 0
-Stored n rs s h w m (Ok _) after = (z : Shot) × Reads z s h w m × (after ≡ slice_set rs n z)
-Stored n rs s h w m (Err _) after = after ≡ rs
+abbrev pub Stored : ℕ → List Shot → Entry → Result (Unit {0}) Refusal → List Shot → Type 0
+Stored n rs entry (Ok _) after = (z : Shot) × Reads z entry × (after ≡ slice_set rs n z)
+Stored n rs entry (Err _) after = after ≡ rs
 
 abbrev pub Closed : ℕ → List Shot → ℤ → Result (Unit {0}) Refusal → List Shot → Type 0
 Closed n rs p (Ok _) after = after ≡ moved_down (unsigned_abs p) (unsigned_abs p + 1) n rs

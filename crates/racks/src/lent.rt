@@ -1,6 +1,6 @@
 //! A rack that is lent is a rack, so that a layer or a sheet may hold one by reference.
 use crate::rack::Rack;
-use shots::{Refusal, Shot};
+use shots::{Entry, Refusal, Shot};
 
 impl<R: Rack> Rack for &mut R {
     ghost held = { λ rack. R.Rack.held rack.now };
@@ -17,8 +17,8 @@ impl<R: Rack> Rack for &mut R {
         (**self).read(place)
     }
 
-    fn add(&mut self, speed: i32, lead: i32, weight: i32, stuff: i32) -> Result<(), Refusal> {
-        (**self).add(speed, lead, weight, stuff)
+    fn add(&mut self, entry: Entry) -> Result<(), Refusal> {
+        (**self).add(entry)
     }
 
     fn strike(&mut self, place: i32) -> Result<(), Refusal> {

@@ -5,7 +5,7 @@ ghost use Rattle.racks.specs.Flips.{flipped};
 ghost use Rattle.racks.specs.RackLaws.{mirror_bounded};
 
 use crate::rack::Rack;
-use shots::{Refusal, Shot};
+use shots::{Entry, Refusal, Shot};
 
 /// A rack that shows and adds each lead negated, over any other rack; two of them show what is
 /// below.
@@ -47,10 +47,11 @@ impl<R: Rack> Rack for Mirror<R> {
         self.rack.read(place).map(flip)
     }
 
-    fn add(&mut self, speed: i32, lead: i32, weight: i32, stuff: i32) -> Result<(), Refusal> {
+    fn add(&mut self, entry: Entry) -> Result<(), Refusal> {
         // `i32::MIN`, which has no negation, stays; it is out of range either way, so that the rack
         // below refuses it in its turn
-        self.rack.add(speed, lead.wrapping_neg(), weight, stuff)
+        let lead = entry.lead.wrapping_neg();
+        self.rack.add(Entry { lead, ..entry })
     }
 
     fn strike(&mut self, place: i32) -> Result<(), Refusal> {

@@ -8,7 +8,7 @@ ghost use Rattle.racks.specs.Packs.{shot_of_bytes, shots_of_bytes, places, Store
 
 use crate::place::index_of;
 use crate::rack::{MOST_SHOTS, Rack};
-use shots::{Refusal, Shot};
+use shots::{Entry, Refusal, Shot};
 
 /// A rack in lent bytes, six to a shot. It has room for one shot in each six, at most 512; no call
 /// writes a byte at or past the images that it leaves.
@@ -55,13 +55,13 @@ impl Rack for PackedRack<'_> {
         Ok(shot_in(&self.bytes[6 * index..6 * index + 6]))
     }
 
-    fn add(&mut self, speed: i32, lead: i32, weight: i32, stuff: i32) -> Result<(), Refusal>
-        ensures added { Added (places self.old.bytes.now) (shots_of_bytes self.old.count self.old.bytes.now) speed lead weight stuff result (shots_of_bytes self.new.count self.new.bytes.now) }
+    fn add(&mut self, entry: Entry) -> Result<(), Refusal>
+        ensures added { Added (places self.old.bytes.now) (shots_of_bytes self.old.count self.old.bytes.now) entry result (shots_of_bytes self.new.count self.new.bytes.now) }
         ensures room { places self.new.bytes.now ≡ places self.old.bytes.now }
-        ensures memory { Stored self.old.count self.old.bytes.now speed lead weight stuff result self.new.bytes.now }
+        ensures memory { Stored self.old.count self.old.bytes.now entry result self.new.bytes.now }
         ensures lender { self.new.bytes.ghost_name ≡ self.old.bytes.ghost_name }
     {
-        let shot = Shot::new(speed, lead, weight, stuff)?;
+        let shot = Shot::try_from(entry)?;
         if self.is_full() {
             return Err(Refusal::Full);
         }

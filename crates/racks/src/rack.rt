@@ -4,7 +4,7 @@ ghost use Rattle.racks.specs.Racks.{Read, Added, Struck};
 ghost use Rattle.shots.specs.declared.shot.Shot.{Shot};
 
 use crate::iter::Iter;
-use shots::{Refusal, Shot};
+use shots::{Entry, Refusal, Shot};
 
 /// The most shots that any rack has room for.
 pub const MOST_SHOTS: usize = 512;
@@ -32,8 +32,8 @@ pub trait Rack {
 
     /// Puts the shot of these four numbers at the end; refused by `Speed`, `Lead`, `Weight` or
     /// `Stuff`, by the first that is out of its range, then by `Full`.
-    fn add(&mut self, speed: i32, lead: i32, weight: i32, stuff: i32) -> Result<(), Refusal>
-        ensures added { Added (capacity self.old) (held self.old) speed lead weight stuff result (held self.new) }
+    fn add(&mut self, entry: Entry) -> Result<(), Refusal>
+        ensures added { Added (capacity self.old) (held self.old) entry result (held self.new) }
         ensures room { capacity self.new ≡ capacity self.old };
 
     /// Takes the shot at a place out, and the later shots move down one place; refused by `Place`

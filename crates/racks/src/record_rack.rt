@@ -6,7 +6,7 @@ ghost use Rattle.racks.specs.Records.{room, Stored, Closed};
 
 use crate::place::index_of;
 use crate::rack::{MOST_SHOTS, Rack};
-use shots::{Refusal, Shot};
+use shots::{Entry, Refusal, Shot};
 
 /// A rack in lent records. It has room for one shot in each, at most 512; no call writes a record
 /// at or past the count that it leaves.
@@ -52,13 +52,13 @@ impl Rack for RecordRack<'_> {
         Ok(self.records[index])
     }
 
-    fn add(&mut self, speed: i32, lead: i32, weight: i32, stuff: i32) -> Result<(), Refusal>
-        ensures added { Added (room self.old.records.now) (take self.old.count self.old.records.now) speed lead weight stuff result (take self.new.count self.new.records.now) }
+    fn add(&mut self, entry: Entry) -> Result<(), Refusal>
+        ensures added { Added (room self.old.records.now) (take self.old.count self.old.records.now) entry result (take self.new.count self.new.records.now) }
         ensures room { room self.new.records.now ≡ room self.old.records.now }
-        ensures memory { Stored self.old.count self.old.records.now speed lead weight stuff result self.new.records.now }
+        ensures memory { Stored self.old.count self.old.records.now entry result self.new.records.now }
         ensures lender { self.new.records.ghost_name ≡ self.old.records.ghost_name }
     {
-        let shot = Shot::new(speed, lead, weight, stuff)?;
+        let shot = Shot::try_from(entry)?;
         if self.is_full() {
             return Err(Refusal::Full);
         }

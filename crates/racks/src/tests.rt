@@ -3,7 +3,7 @@
 ghost use Rattle.std.specs.Prelude.{◌≡◌, ◌≤◌, [], ◌∷◌, ◌++◌, length, drop};
 
 use crate::{Mirror, PackedRack, Rack, RecordRack};
-use shots::{Refusal, Shot};
+use shots::{Entry, Refusal, Shot};
 use std::process::Abort;
 use std::test::Fail;
 
@@ -13,7 +13,7 @@ fn first_image(bytes: &mut [u8])
     ensures { bytes.new ≡ (0 ∷ 1 ∷ 0 ∷ 2 ∷ 3 ∷ 4 ∷ []) ++ drop 6 bytes.old }
 {
     let mut rack = PackedRack::open(bytes);
-    let _ = rack.add(1, 2, 3, 4);
+    let _ = rack.add(Entry::new(1, 2, 3, 4));
 }
 
 fn no_strike(bytes: &mut [u8])
@@ -36,7 +36,7 @@ fn lenders_know_their_bytes(rt: HostRuntime) {
 fn taken(bytes: &mut [u8]) -> usize {
     let mut rack = PackedRack::open(bytes);
     for _ in 0..600 {
-        if rack.add(1, 0, 1, 0).is_err() {
+        if rack.add(Entry::new(1, 0, 1, 0)).is_err() {
             return rack.count();
         }
     }
@@ -60,9 +60,9 @@ fn capacities_are_at_most_512(rt: HostRuntime) {
 }
 
 fn add_three<R: Rack>(rack: &mut R) -> Result<(), Refusal> {
-    rack.add(258, -2, 10, 3)?;
-    rack.add(1, 0, 1, 0)?;
-    rack.add(4000, 8000, 100, 15)
+    rack.add(Entry::new(258, -2, 10, 3))?;
+    rack.add(Entry::new(1, 0, 1, 0))?;
+    rack.add(Entry::new(4000, 8000, 100, 15))
 }
 
 // What three shots in twenty bytes leave there after a strike.
@@ -112,25 +112,31 @@ fn refuses_in_order<R: Rack>(rt: &impl Abort, rack: &mut R) -> Result<(), Fail> 
 }
 
 fn refuses_when_full<R: Rack>(rt: &impl Abort, rack: &mut R) {
-    assert_eq!(rt; rack.add(1, 0, 1, 0), Err(Refusal::Full));
-    assert_eq!(rt; rack.add(0, 0, 1, 0), Err(Refusal::Speed));
-    assert_eq!(rt; rack.add(1, 8001, 0, 0), Err(Refusal::Lead));
-    assert_eq!(rt; rack.add(1, 0, 0, 16), Err(Refusal::Weight));
-    assert_eq!(rt; rack.add(1, 0, 1, 16), Err(Refusal::Stuff));
+    assert_eq!(rt; rack.add(Entry::new(1, 0, 1, 0)), Err(Refusal::Full));
+    assert_eq!(rt; rack.add(Entry::new(0, 0, 1, 0)), Err(Refusal::Speed));
+    assert_eq!(rt; rack.add(Entry::new(1, 8001, 0, 0)), Err(Refusal::Lead));
+    assert_eq!(rt; rack.add(Entry::new(1, 0, 0, 16)), Err(Refusal::Weight));
+    assert_eq!(rt; rack.add(Entry::new(1, 0, 1, 16)), Err(Refusal::Stuff));
 }
 
 fn mirrors<R: Rack>(rt: &impl Abort, rack: &mut R) -> Result<(), Fail> {
     let mut mirror = Mirror::over(rack);
-    assert_eq!(rt; mirror.add(1, i32::MIN, 1, 0), Err(Refusal::Lead));
-    assert_eq!(rt; mirror.add(0, i32::MIN, 1, 0), Err(Refusal::Speed));
-    mirror.add(1, 8000, 1, 0)?;
+    assert_eq!(rt;
+        mirror.add(Entry::new(1, i32::MIN, 1, 0)),
+        Err(Refusal::Lead)
+    );
+    assert_eq!(rt;
+        mirror.add(Entry::new(0, i32::MIN, 1, 0)),
+        Err(Refusal::Speed)
+    );
+    mirror.add(Entry::new(1, 8000, 1, 0))?;
     let mut twice = Mirror::over(mirror);
-    assert_eq!(rt; twice.read(0), Shot::new(1, -8000, 1, 0));
-    twice.add(2, -8000, 1, 0)?;
+    assert_eq!(rt; twice.read(0), Shot::try_from(Entry::new(1, -8000, 1, 0)));
+    twice.add(Entry::new(2, -8000, 1, 0))?;
     let mirror = twice.into_inner();
-    assert_eq!(rt; mirror.read(1), Shot::new(2, 8000, 1, 0));
+    assert_eq!(rt; mirror.read(1), Shot::try_from(Entry::new(2, 8000, 1, 0)));
     let rack = mirror.into_inner();
-    assert_eq!(rt; rack.read(1), Shot::new(2, -8000, 1, 0));
+    assert_eq!(rt; rack.read(1), Shot::try_from(Entry::new(2, -8000, 1, 0)));
     Ok(())
 }
 
@@ -145,7 +151,7 @@ fn packed_racks_refuse_in_order(rt: HostRuntime) -> Result<(), Fail> {
 
 #[test]
 fn record_racks_refuse_in_order(rt: HostRuntime) -> Result<(), Fail> {
-    let mut records = [Shot::new(9, 9, 9, 9)?; 3];
+    let mut records = [Shot::try_from(Entry::new(9, 9, 9, 9))?; 3];
     let mut rack = RecordRack::open(&mut records);
     refuses_in_order(&rt, &mut rack)?;
     refuses_when_full(&rt, &mut rack);
@@ -156,7 +162,7 @@ fn record_racks_refuse_in_order(rt: HostRuntime) -> Result<(), Fail> {
 fn mirrors_over_each_rack(rt: HostRuntime) -> Result<(), Fail> {
     let mut bytes = [7; 18];
     mirrors(&rt, &mut PackedRack::open(&mut bytes))?;
-    let mut records = [Shot::new(9, 9, 9, 9)?; 3];
+    let mut records = [Shot::try_from(Entry::new(9, 9, 9, 9))?; 3];
     mirrors(&rt, &mut RecordRack::open(&mut records))
 }
 
@@ -165,9 +171,15 @@ fn goes_over<R: Rack>(rt: &impl Abort, rack: &mut R) -> Result<(), Fail> {
     assert_eq!(rt; rack.iter().next(), None);
     add_three(rack)?;
     let mut shots = rack.iter();
-    assert_eq!(rt; shots.next(), Some(Shot::new(258, -2, 10, 3)?));
-    assert_eq!(rt; shots.next(), Some(Shot::new(1, 0, 1, 0)?));
-    assert_eq!(rt; shots.next(), Some(Shot::new(4000, 8000, 100, 15)?));
+    assert_eq!(rt;
+        shots.next(),
+        Some(Shot::try_from(Entry::new(258, -2, 10, 3))?)
+    );
+    assert_eq!(rt; shots.next(), Some(Shot::try_from(Entry::new(1, 0, 1, 0))?));
+    assert_eq!(rt;
+        shots.next(),
+        Some(Shot::try_from(Entry::new(4000, 8000, 100, 15))?)
+    );
     assert_eq!(rt; shots.next(), None);
     assert_eq!(rt; shots.next(), None);
     assert_eq!(rt; rack.iter().count(), 3);
@@ -178,7 +190,7 @@ fn goes_over<R: Rack>(rt: &impl Abort, rack: &mut R) -> Result<(), Fail> {
 fn each_rack_is_gone_over(rt: HostRuntime) -> Result<(), Fail> {
     goes_over(&rt, &mut PackedRack::open(&mut [7; 18]))?;
     goes_over(&rt, &mut Mirror::over(PackedRack::open(&mut [7; 18])))?;
-    let mut records = [Shot::new(9, 9, 9, 9)?; 3];
+    let mut records = [Shot::try_from(Entry::new(9, 9, 9, 9))?; 3];
     goes_over(&rt, &mut RecordRack::open(&mut records))?;
     goes_over(&rt, &mut Mirror::over(RecordRack::open(&mut records)))?;
     let mut rack = RecordRack::open(&mut records);
@@ -190,7 +202,7 @@ fn a_full_rack_is_gone_over(rt: HostRuntime) {
     let mut bytes = [7; 3084];
     let mut rack = PackedRack::open(&mut bytes);
     for _ in 0..600 {
-        let _ = rack.add(1, 0, 1, 0);
+        let _ = rack.add(Entry::new(1, 0, 1, 0));
     }
     assert_eq!(rt; rack.iter().count(), 512);
 }

@@ -4,6 +4,7 @@ ghost use Rattle.std.specs.Prelude.{◌≡◌};
 ghost use Rattle.shots.specs.Images.{image_of, Unpacked};
 ghost use Rattle.shots.specs.declared.shot.Shot.{Shot};
 
+use crate::entry::Entry;
 use crate::shot::Shot;
 
 impl Shot {
@@ -22,14 +23,12 @@ impl Shot {
         ensures { Unpacked image result }
     {
         let [a, b, c, d, weight, stuff] = image;
-        let speed = u16::from_be_bytes([a, b]);
-        let lead = i16::from_be_bytes([c, d]);
-        Shot::new(
-            i32::from(speed),
-            i32::from(lead),
-            i32::from(weight),
-            i32::from(stuff),
-        )
-        .ok()
+        let entry = Entry {
+            speed: i32::from(u16::from_be_bytes([a, b])),
+            lead: i32::from(i16::from_be_bytes([c, d])),
+            weight: i32::from(weight),
+            stuff: i32::from(stuff),
+        };
+        Shot::try_from(entry).ok()
     }
 }

@@ -3,6 +3,7 @@
 #![tactic(auto)]
 
 mod by_stuff;
+mod entry;
 mod even;
 mod image;
 mod making;
@@ -11,6 +12,7 @@ mod refusal;
 mod shot;
 mod stuff_prices;
 
+pub use entry::Entry;
 pub use even::EvenPrices;
 pub use prices::PriceRule;
 pub use refusal::Refusal;

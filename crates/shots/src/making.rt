@@ -1,14 +1,23 @@
-//! Making a shot from four numbers as they come.
+//! Making a shot from its four numbers as they come.
 ghost use Rattle.shots.specs.Shots.{Judged};
 
+use crate::entry::Entry;
 use crate::refusal::Refusal;
 use crate::shot::Shot;
 
-impl Shot {
+impl TryFrom<Entry> for Shot {
+    type Error = Refusal;
+
+    ghost try_from_gives = { Judged };
+
     /// The shot of these four numbers; else the refusal of the first that is out of its range.
-    pub fn new(speed: i32, lead: i32, weight: i32, stuff: i32) -> Result<Shot, Refusal>
-        ensures { Judged speed lead weight stuff result }
-    {
+    fn try_from(entry: Entry) -> Result<Shot, Refusal> {
+        let Entry {
+            speed,
+            lead,
+            weight,
+            stuff,
+        } = entry;
         if speed < 1 || speed > 4000 {
             return Err(Refusal::Speed);
         }

@@ -7,5 +7,5 @@ returns c =
     let xs = c.args.image in
     let k : length xs ≡ 6 = search rules in
     let f : (i : ℕ) → Fits w8 (get_or xs i 0) = λ i. search rules in
-    let p = passed xs _ _ _ _ _ _ f c.from_be_bytes-speed.ensures c.from_be_bytes-lead.ensures c.from.ensures c.from-2.ensures c.from-3.ensures c.from-4.ensures in
-    rw c.ok.ensures.value (judged_image xs _ _ _ _ c.new.result k f p c.new.ensures)
+    let p = passed xs _ _ _ _ _ _ f c.from_be_bytes.ensures c.from_be_bytes-2.ensures c.from.ensures c.from-2.ensures c.from-3.ensures c.from-4.ensures in
+    rw c.ok.ensures.value (judged_image xs _ c.try_from.result k f p c.try_from.ensures)
