@@ -5,6 +5,7 @@ use Rattle.std.proofs.lemmas.List.{get_or_default, length-map}
 use Rattle.std.proofs.lemmas.Int.{ints, clamps}
 use Rattle.shots.specs.Shots.{Reads}
 use Rattle.shots.specs.declared.shot.Shot.{Shot}
+use Rattle.shots.specs.declared.entry.Entry.{Entry}
 use Rattle.shots.proofs.Same.{same_numbers}
 use Rattle.lines.specs.Lines.{any}
 use Rattle.lines.specs.declared.line.Line.{Line}
@@ -30,9 +31,9 @@ use Rattle.law.specs.Places.{cheaper_places}
 use Rattle.law.proofs.Places.{Falls, places_fall, places_bounded}
 
 -- a shot that has four numbers is the shot of these numbers
-pub reads_is : (z : Shot) (s h w m : ℤ) → Reads z s h w m → z ≡ shot_of s h w m
+pub reads_is : (z : Shot) (n : Entry) → Reads z n → z ≡ shot_of n
 unfolding shot_of
-reads_is z s h w m r =
+reads_is z n r =
     let e1 = r.speed in
     let e2 = r.lead in
     let e3 = r.weight in
@@ -44,7 +45,7 @@ reads_is z s h w m r =
     let z5 = z.counted in
     let z6 = z.light in
     let z7 = z.coded in
-    same_numbers z (shot_of s h w m) (omega (arith, ints)) (omega (arith, ints, clamps)) (omega (arith, ints)) (omega (arith, ints))
+    same_numbers z (shot_of n) (omega (arith, ints)) (omega (arith, ints, clamps)) (omega (arith, ints)) (omega (arith, ints))
 
 -- ---- one more shot at the end
 length_more : (xs : List Shot) (z : Shot) → length (xs ++ z ∷ []) ≡ suc (length xs)

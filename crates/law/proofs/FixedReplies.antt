@@ -3,6 +3,7 @@
 use Rattle.std.proofs.Common.{◌≡◌, ℕ, ◌<◌, ◌≤◌, cond, ltb, ◌⊎◌, List, ℤ, Some, None, Ok, Err, Option, sym, refl, ap, ◌∙◌, subst, inl, inr}
 use Rattle.std.proofs.lemmas.Bool.{lt-ltb, le-ltb}
 use Rattle.shots.specs.declared.shot.Shot.{Shot}
+use Rattle.shots.specs.declared.entry.Entry.{Entry}
 use Rattle.shots.specs.declared.refusal.Refusal.{Refusal}
 use Rattle.shots.specs.declared.refusal.Refusal.TheVariants.{Place, Idle, SlipShort}
 use Rattle.lines.specs.declared.line.Line.{Line}
@@ -40,16 +41,16 @@ abbrev by_fault : Option Refusal → Reply
 by_fault None = Done
 by_fault (Some e) = Refused e
 
-add_is : (cap : ℕ) (xs : List Shot) (s h w m : ℤ) (r : Reply) → AddReplies cap xs s h w m r → r ≡ by_fault (add_fault cap xs s h w m)
-add_is cap xs s h w m Done k = sym (ap by_fault k)
-add_is cap xs s h w m (Told t p) k = absurd k
-add_is cap xs s h w m (Mounted c) k = absurd k
-add_is cap xs s h w m (Slipped n) k = absurd k
-add_is cap xs s h w m (Issued l) k = absurd k
-add_is cap xs s h w m (Refused e) k = sym (ap by_fault k)
+add_is : (cap : ℕ) (xs : List Shot) (n : Entry) (r : Reply) → AddReplies cap xs n r → r ≡ by_fault (add_fault cap xs n)
+add_is cap xs n Done k = sym (ap by_fault k)
+add_is cap xs n (Told t p) k = absurd k
+add_is cap xs n (Mounted c) k = absurd k
+add_is cap xs n (Slipped n) k = absurd k
+add_is cap xs n (Issued l) k = absurd k
+add_is cap xs n (Refused e) k = sym (ap by_fault k)
 
-pub add-one : (cap : ℕ) (xs : List Shot) (s h w m : ℤ) (r q : Reply) → AddReplies cap xs s h w m r → AddReplies cap xs s h w m q → r ≡ q
-add-one cap xs s h w m r q k j = add_is cap xs s h w m r k ∙ sym (add_is cap xs s h w m q j)
+pub add-one : (cap : ℕ) (xs : List Shot) (n : Entry) (r q : Reply) → AddReplies cap xs n r → AddReplies cap xs n q → r ≡ q
+add-one cap xs n r q k j = add_is cap xs n r k ∙ sym (add_is cap xs n q j)
 
 -- ---- strike: the answer by whether a shot is held there
 abbrev Struck : List Shot → ℤ → Reply → Type 0

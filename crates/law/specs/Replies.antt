@@ -12,6 +12,7 @@ use Rattle.std.specs.Prelude.{◌≡◌, ℕ, ◌<◌, ◌≤◌, min, max, ◌�
 use Rattle.std.proofs.Common.{lit≤}
 use Rattle.std.specs.Int.{int_min, int_max}
 use Rattle.shots.specs.declared.shot.Shot.{Shot}
+use Rattle.shots.specs.declared.entry.Entry.{Entry}
 use Rattle.shots.specs.declared.refusal.Refusal.TheVariants.{Place, Idle, SlipShort}
 use Rattle.lines.specs.declared.line.Line.{Line}
 use Rattle.racks.specs.Bounds.{least, most, lead_least, lead_most}
@@ -21,19 +22,19 @@ use Rattle.slips.specs.Rows.{on_line}
 use Rattle.law.specs.declared.kinds.Reply.{Reply}
 use Rattle.law.specs.declared.kinds.Reply.TheVariants.{Done, Told, Mounted, Slipped, Issued, Refused}
 
-unfoldable pub shot_of : ℤ → ℤ → ℤ → ℤ → Shot
-shot_of s h w m = record {
-  speed = max 1 (min 4000 (unsigned_abs s));
-  lead = int_max (negsuc 7999) (int_min (pos 8000) h);
-  weight = max 1 (min 100 (unsigned_abs w));
-  stuff = max 0 (min 15 (unsigned_abs m));
-  moving = least (unsigned_abs s) 1 4000;
-  slow = most (unsigned_abs s) 1 4000 (lit≤ tt);
-  low = lead_least h;
-  high = lead_most h;
-  counted = least (unsigned_abs w) 1 100;
-  light = most (unsigned_abs w) 1 100 (lit≤ tt);
-  coded = most (unsigned_abs m) 0 15 (lit≤ tt);
+unfoldable pub shot_of : Entry → Shot
+shot_of n = record {
+  speed = max 1 (min 4000 (unsigned_abs n.speed));
+  lead = int_max (negsuc 7999) (int_min (pos 8000) n.lead);
+  weight = max 1 (min 100 (unsigned_abs n.weight));
+  stuff = max 0 (min 15 (unsigned_abs n.stuff));
+  moving = least (unsigned_abs n.speed) 1 4000;
+  slow = most (unsigned_abs n.speed) 1 4000 (lit≤ tt);
+  low = lead_least n.lead;
+  high = lead_most n.lead;
+  counted = least (unsigned_abs n.weight) 1 100;
+  light = most (unsigned_abs n.weight) 1 100 (lit≤ tt);
+  coded = most (unsigned_abs n.stuff) 0 15 (lit≤ tt);
 }
 
 abbrev pub IfDone : Reply → Type 0 → Type 0 → Type 0
@@ -52,13 +53,13 @@ if_done (Slipped k) x y = y
 if_done (Issued l) x y = y
 if_done (Refused e) x y = y
 
-abbrev pub AddReplies : ℕ → List Shot → ℤ → ℤ → ℤ → ℤ → Reply → Type 0
-AddReplies cap xs s h w m Done = add_fault cap xs s h w m ≡ None
-AddReplies cap xs s h w m (Told t p) = ⊥
-AddReplies cap xs s h w m (Mounted c) = ⊥
-AddReplies cap xs s h w m (Slipped k) = ⊥
-AddReplies cap xs s h w m (Issued l) = ⊥
-AddReplies cap xs s h w m (Refused e) = add_fault cap xs s h w m ≡ Some e
+abbrev pub AddReplies : ℕ → List Shot → Entry → Reply → Type 0
+AddReplies cap xs n Done = add_fault cap xs n ≡ None
+AddReplies cap xs n (Told t p) = ⊥
+AddReplies cap xs n (Mounted c) = ⊥
+AddReplies cap xs n (Slipped k) = ⊥
+AddReplies cap xs n (Issued l) = ⊥
+AddReplies cap xs n (Refused e) = add_fault cap xs n ≡ Some e
 
 abbrev pub StrikeReplies : List Shot → ℤ → Reply → Type 0
 StrikeReplies xs p Done = Holds xs p

@@ -1,21 +1,12 @@
 //! The calls on a sheet, their answers, and what is written down of each.
 use lines::{Line, PricedLine};
-use shots::Refusal;
+use shots::{Entry, Refusal};
 
 /// A call on a sheet.
 #[derive(Clone, Copy, PartialEq, Eq, Debug)]
 pub enum Call {
     /// Adds the shot of these four numbers.
-    Add {
-        /// Belt speed in mm per second.
-        speed: i32,
-        /// Lead in tenths of a mm.
-        lead: i32,
-        /// How much the shot counts.
-        weight: i32,
-        /// The material code.
-        stuff: i32,
-    },
+    Add(Entry),
     /// Takes the shot at this place out.
     Strike {
         /// The place, counted from 0.
