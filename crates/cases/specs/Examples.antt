@@ -133,7 +133,7 @@ abbrev pub sheet : List Shot → Stage → View
 sheet = sheet_at even
 
 abbrev pub add : ℤ → ℤ → Call
-add s h = Add s h (pos 1) (pos 0)
+add s h = Add (record { speed = s; lead = h; weight = pos 1; stuff = pos 0 })
 
 abbrev pub told : Word → Line → ℤ → Reply
 told w l t = Told w (record { line = l; total = t })

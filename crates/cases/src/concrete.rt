@@ -6,7 +6,7 @@ ghost use Rattle.cases.specs.Sample.{sample};
 use law::{Call, Moment, Reply};
 use racks::RecordRack;
 use sheet::live;
-use shots::{EvenPrices, Shot};
+use shots::{Entry, EvenPrices, Shot};
 
 /// The sample life as the code makes it, moment by moment.
 pub fn sample_life() -> [Moment; 11]
@@ -41,18 +41,10 @@ pub fn sample_life() -> [Moment; 11]
 fn add(speed: i32, lead: i32) -> Call
     ensures { result ≡ added speed lead }
 {
-    Call::Add {
-        speed,
-        lead,
-        weight: 1,
-        stuff: 0,
-    }
+    Call::Add(Entry::new(speed, lead, 1, 0))
 }
 
 // What the records hold before they are written.
 fn any_shot() -> Shot {
-    match Shot::new(1, 0, 1, 0) {
-        Ok(shot) => shot,
-        Err(_) => unreachable(),
-    }
+    Shot::try_from(Entry::new(1, 0, 1, 0)).unwrap()
 }

@@ -5,7 +5,7 @@ ghost use Rattle.cases.specs.Hands.{OwnLife};
 
 use racks::Rack;
 use sheet::{Pass, Sheet};
-use shots::{PriceRule, Refusal};
+use shots::{Entry, PriceRule, Refusal};
 use slips::Row;
 
 /// Makes each of the six calls once, whatever the others answered, the last one an issue. Nothing but
@@ -18,10 +18,10 @@ pub fn by_hand<R: Rack + Drop, P: PriceRule + Drop>(
     lead: i32,
     place: i32,
 ) -> Result<Pass, Refusal>
-    ensures { R.Rack.held rack ≡ [] → OwnLife (P.PriceRule.tariff rule) (R.Rack.capacity rack) (Issue ∷ Slip 5 ∷ Mount speed lead ∷ Strike place ∷ Pivot ∷ Add speed lead (pos 1) (pos 0) ∷ []) result }
+    ensures { R.Rack.held rack ≡ [] → OwnLife (P.PriceRule.tariff rule) (R.Rack.capacity rack) (Issue ∷ Slip 5 ∷ Mount speed lead ∷ Strike place ∷ Pivot ∷ Add (record { speed = speed; lead = lead; weight = pos 1; stuff = pos 0 }) ∷ []) result }
 {
     let mut sheet = Sheet::begin(rack, rule);
-    let _ = sheet.add(speed, lead, 1, 0);
+    let _ = sheet.add(Entry::new(speed, lead, 1, 0));
     let _ = sheet.pivot();
     let _ = sheet.strike(place);
     let _ = sheet.mount(speed, lead);

@@ -5,5 +5,4 @@ ghost use Rattle.cases.specs.Sample.{SampleLives};
 /// and put out by another: the law of every life is not empty.
 pub fn there_is_a_life()
     ensures { SampleLives }
-{
-}
+{}

@@ -4,7 +4,7 @@ use law::{Call, Moment, Pivoted, Reply, Word};
 use lines::{Line, PricedLine};
 use racks::{Mirror, PackedRack, Rack, RecordRack};
 use sheet::{Sheet, live};
-use shots::{EvenPrices, PriceRule, Refusal, Shot, StuffPrices};
+use shots::{Entry, EvenPrices, PriceRule, Refusal, Shot, StuffPrices};
 use slips::Row;
 use std::process::Abort;
 use std::test::Fail;
@@ -37,11 +37,11 @@ fn three_pivots<R: Rack, P: PriceRule>(
     rt: &impl Abort,
     sheet: &mut Sheet<R, P>,
 ) -> Result<(), Fail> {
-    sheet.add(500, 20, 1, 0)?;
-    sheet.add(1000, 0, 1, 0)?;
-    sheet.add(2000, 0, 1, 0)?;
-    sheet.add(3000, 0, 1, 0)?;
-    sheet.add(3500, -20, 1, 0)?;
+    sheet.add(Entry::new(500, 20, 1, 0))?;
+    sheet.add(Entry::new(1000, 0, 1, 0))?;
+    sheet.add(Entry::new(2000, 0, 1, 0))?;
+    sheet.add(Entry::new(3000, 0, 1, 0))?;
+    sheet.add(Entry::new(3500, -20, 1, 0))?;
     let steep = line(25, -1, 1000)?;
     let gentle = line(75, -1, 2000)?;
     assert_eq!(rt; sheet.pivot(), answer(Word::Laid, steep, 5000));
@@ -56,8 +56,8 @@ fn three_pivots<R: Rack, P: PriceRule>(
 // Refused changes leave the line in force, one strike keeps it, and the next leaves no two speeds on it.
 fn strikes<R: Rack, P: PriceRule>(rt: &impl Abort, sheet: &mut Sheet<R, P>) -> Result<(), Fail> {
     let gentle = line(75, -1, 2000)?;
-    assert_eq!(rt; sheet.add(600, 600, 1, 0), Err(Refusal::Full));
-    assert_eq!(rt; sheet.add(0, 600, 1, 0), Err(Refusal::Speed));
+    assert_eq!(rt; sheet.add(Entry::new(600, 600, 1, 0)), Err(Refusal::Full));
+    assert_eq!(rt; sheet.add(Entry::new(0, 600, 1, 0)), Err(Refusal::Speed));
     assert_eq!(rt; sheet.strike(5), Err(Refusal::Place));
     assert_eq!(rt; in_force(sheet), Some(gentle));
     sheet.strike(2)?;
@@ -70,7 +70,7 @@ fn strikes<R: Rack, P: PriceRule>(rt: &impl Abort, sheet: &mut Sheet<R, P>) -> R
 
 #[test]
 fn pivots_on_records(rt: HostRuntime) -> Result<(), Fail> {
-    let mut records = [Shot::new(1, 0, 1, 0)?; 5];
+    let mut records = [Shot::try_from(Entry::new(1, 0, 1, 0))?; 5];
     let mut rack = RecordRack::open(&mut records);
     let mut sheet = Sheet::begin(&mut rack, EvenPrices);
     three_pivots(&rt, &mut sheet)?;
@@ -97,7 +97,7 @@ fn pivots_under_a_mirror(rt: HostRuntime) -> Result<(), Fail> {
 
 #[test]
 fn a_strike_can_leave_a_cheaper_line(rt: HostRuntime) -> Result<(), Fail> {
-    let mut records = [Shot::new(1, 0, 1, 0)?; 5];
+    let mut records = [Shot::try_from(Entry::new(1, 0, 1, 0))?; 5];
     let mut rack = RecordRack::open(&mut records);
     let mut sheet = Sheet::begin(&mut rack, EvenPrices);
     three_pivots(&rt, &mut sheet)?;
@@ -109,15 +109,15 @@ fn a_strike_can_leave_a_cheaper_line(rt: HostRuntime) -> Result<(), Fail> {
 
 #[test]
 fn one_speed_is_refused_by_7(rt: HostRuntime) -> Result<(), Fail> {
-    let mut records = [Shot::new(1, 0, 1, 0)?; 9];
+    let mut records = [Shot::try_from(Entry::new(1, 0, 1, 0))?; 9];
     let mut rack = RecordRack::open(&mut records);
-    rack.add(1000, 0, 1, 0)?;
+    rack.add(Entry::new(1000, 0, 1, 0))?;
     // a shot already in the rack counts as held
     let mut sheet = Sheet::begin(&mut rack, EvenPrices);
     assert_eq!(rt; sheet.pivot(), Err(Refusal::OneSpeed));
-    sheet.add(1000, 10, 1, 0)?;
+    sheet.add(Entry::new(1000, 10, 1, 0))?;
     assert_eq!(rt; sheet.pivot(), Err(Refusal::OneSpeed));
-    sheet.add(2000, 0, 1, 0)?;
+    sheet.add(Entry::new(2000, 0, 1, 0))?;
     let level = line(1, 0, 0)?;
     assert_eq!(rt; sheet.pivot(), answer(Word::Laid, level, 10));
     assert_eq!(rt; sheet.pivot(), answer(Word::Proved, level, 10));
@@ -128,14 +128,14 @@ fn one_speed_is_refused_by_7(rt: HostRuntime) -> Result<(), Fail> {
 
 #[test]
 fn mounts_take_the_balance_point(rt: HostRuntime) -> Result<(), Fail> {
-    let mut records = [Shot::new(1, 0, 1, 0)?; 2];
+    let mut records = [Shot::try_from(Entry::new(1, 0, 1, 0))?; 2];
     let mut rack = RecordRack::open(&mut records);
     let mut sheet = Sheet::begin(&mut rack, EvenPrices);
     assert_eq!(rt; sheet.mount(4001, 0), Err(Refusal::Slope));
     assert_eq!(rt; sheet.mount(1, -16001), Err(Refusal::Slope));
     assert_eq!(rt; sheet.mount(1, 0), Err(Refusal::Empty));
-    sheet.add(1000, 0, 1, 0)?;
-    sheet.add(1000, 10, 1, 0)?;
+    sheet.add(Entry::new(1000, 0, 1, 0))?;
+    sheet.add(Entry::new(1000, 10, 1, 0))?;
     assert_eq!(rt; sheet.mount(1, 0), Ok(0));
     assert_eq!(rt; sheet.mount(4000, 16000), Ok(-16000000));
     let (rack, _) = sheet.end();
@@ -148,7 +148,7 @@ fn mounts_take_the_balance_point(rt: HostRuntime) -> Result<(), Fail> {
 
 #[test]
 fn slips_have_one_row_for_each_shot_on_the_line(rt: HostRuntime) -> Result<(), Fail> {
-    let mut records = [Shot::new(1, 0, 1, 0)?; 5];
+    let mut records = [Shot::try_from(Entry::new(1, 0, 1, 0))?; 5];
     let mut rack = RecordRack::open(&mut records);
     let mut sheet = Sheet::begin(&mut rack, EvenPrices);
     let blank = Row {
@@ -175,7 +175,7 @@ fn row(place: usize, rise: i64, fall: i64) -> Row {
 
 #[test]
 fn a_pass_writes_one_card(rt: HostRuntime) -> Result<(), Fail> {
-    let mut records = [Shot::new(1, 0, 1, 0)?; 5];
+    let mut records = [Shot::try_from(Entry::new(1, 0, 1, 0))?; 5];
     let mut rack = RecordRack::open(&mut records);
     let mut sheet = Sheet::begin(&mut rack, EvenPrices);
     three_pivots(&rt, &mut sheet)?;
@@ -190,7 +190,7 @@ fn a_pass_writes_one_card(rt: HostRuntime) -> Result<(), Fail> {
 
 #[test]
 fn no_life_on_a_rack_with_shots_or_in_too_little_room(rt: HostRuntime) -> Result<(), Fail> {
-    let mut records = [Shot::new(1, 0, 1, 0)?; 2];
+    let mut records = [Shot::try_from(Entry::new(1, 0, 1, 0))?; 2];
     let mut rack = RecordRack::open(&mut records);
     let blank = Moment {
         call: Call::Issue,
@@ -210,7 +210,7 @@ fn no_life_on_a_rack_with_shots_or_in_too_little_room(rt: HostRuntime) -> Result
     );
     assert_eq!(rt; moments[0].reply, Reply::Refused(Refusal::OneSpeed));
     assert_eq!(rt; moments[1], blank);
-    rack.add(1, 0, 1, 0)?;
+    rack.add(Entry::new(1, 0, 1, 0))?;
     assert_eq!(rt;
         live(&mut rack, EvenPrices, &calls[..2], &mut moments).count,
         None

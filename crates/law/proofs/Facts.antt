@@ -31,9 +31,9 @@ use Rattle.law.specs.Places.{cheaper_places}
 use Rattle.law.proofs.Places.{Falls, places_fall, places_bounded}
 
 -- a shot that has four numbers is the shot of these numbers
-pub reads_is : (z : Shot) (n : Entry) → Reads z n → z ≡ shot_of n
+pub reads_is : (z : Shot) (entry : Entry) → Reads z entry → z ≡ shot_of entry
 unfolding shot_of
-reads_is z n r =
+reads_is z entry r =
     let e1 = r.speed in
     let e2 = r.lead in
     let e3 = r.weight in
@@ -45,7 +45,7 @@ reads_is z n r =
     let z5 = z.counted in
     let z6 = z.light in
     let z7 = z.coded in
-    same_numbers z (shot_of n) (omega (arith, ints)) (omega (arith, ints, clamps)) (omega (arith, ints)) (omega (arith, ints))
+    same_numbers z (shot_of entry) (omega (arith, ints)) (omega (arith, ints, clamps)) (omega (arith, ints)) (omega (arith, ints))
 
 -- ---- one more shot at the end
 length_more : (xs : List Shot) (z : Shot) → length (xs ++ z ∷ []) ≡ suc (length xs)

@@ -20,7 +20,7 @@ module _ (tariff : ℤ → ℕ × ℕ) (cap : ℕ) (past : List Moment) where
       (e, if_done_one r tariff (changed c r (held_by past)) b o p h (subst (λ t. IfDone t (Kept tariff (changed c t (held_by past)) b p) (p ≡ b)) (sym e) k))
 
   call_one : (c : Call) (r q : Reply) (o p : Option Line) → CallSays tariff cap past c r o → CallSays tariff cap past c q p → (r ≡ q) × (o ≡ p)
-  call_one (Add n) r q o p x y = changed_one (Add n) r q (in_force_by past) o p (add-one cap (held_by past) n r q x.0 y.0) x.1 y.1
+  call_one (Add entry) r q o p x y = changed_one (Add entry) r q (in_force_by past) o p (add-one cap (held_by past) entry r q x.0 y.0) x.1 y.1
   call_one (Strike i) r q o p x y = changed_one (Strike i) r q (in_force_by past) o p (strike_one (held_by past) i r q x.0 y.0) x.1 y.1
   call_one Pivot r q o p x y = pivot_one tariff past r q o p x y
   call_one (Mount a b) r q o p x y = (mount_one tariff a b (held_by past) r q x.0 y.0, x.1 ∙ sym y.1)

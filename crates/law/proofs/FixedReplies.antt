@@ -41,16 +41,16 @@ abbrev by_fault : Option Refusal → Reply
 by_fault None = Done
 by_fault (Some e) = Refused e
 
-add_is : (cap : ℕ) (xs : List Shot) (n : Entry) (r : Reply) → AddReplies cap xs n r → r ≡ by_fault (add_fault cap xs n)
-add_is cap xs n Done k = sym (ap by_fault k)
-add_is cap xs n (Told t p) k = absurd k
-add_is cap xs n (Mounted c) k = absurd k
-add_is cap xs n (Slipped n) k = absurd k
-add_is cap xs n (Issued l) k = absurd k
-add_is cap xs n (Refused e) k = sym (ap by_fault k)
+add_is : (cap : ℕ) (xs : List Shot) (entry : Entry) (r : Reply) → AddReplies cap xs entry r → r ≡ by_fault (add_fault cap xs entry)
+add_is cap xs entry Done k = sym (ap by_fault k)
+add_is cap xs entry (Told t p) k = absurd k
+add_is cap xs entry (Mounted c) k = absurd k
+add_is cap xs entry (Slipped n) k = absurd k
+add_is cap xs entry (Issued l) k = absurd k
+add_is cap xs entry (Refused e) k = sym (ap by_fault k)
 
-pub add-one : (cap : ℕ) (xs : List Shot) (n : Entry) (r q : Reply) → AddReplies cap xs n r → AddReplies cap xs n q → r ≡ q
-add-one cap xs n r q k j = add_is cap xs n r k ∙ sym (add_is cap xs n q j)
+pub add-one : (cap : ℕ) (xs : List Shot) (entry : Entry) (r q : Reply) → AddReplies cap xs entry r → AddReplies cap xs entry q → r ≡ q
+add-one cap xs entry r q k j = add_is cap xs entry r k ∙ sym (add_is cap xs entry q j)
 
 -- ---- strike: the answer by whether a shot is held there
 abbrev Struck : List Shot → ℤ → Reply → Type 0

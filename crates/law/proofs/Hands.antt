@@ -24,7 +24,7 @@ strike_one i (Issued l) xs a o p h k = h ∙ sym k
 strike_one i (Refused e) xs a o p h k = h ∙ sym k
 
 after_one : (c : Call) (r : Reply) (xs : List Shot) (a o p : Option Line) → HandAfter c r xs a o → HandAfter c r xs a p → o ≡ p
-after_one (Add n) r xs a o p e f = e ∙ sym f
+after_one (Add entry) r xs a o p e f = e ∙ sym f
 after_one (Strike i) r xs a o p e f = strike_one i r xs a o p e f
 after_one Pivot r xs a o p e f = e ∙ sym f
 after_one (Mount x y) r xs a o p e f = e ∙ sym f

@@ -2,6 +2,7 @@
 use Rattle.std.proofs.Common.{◌≡◌, ℕ, suc, ◌+◌, ◌-◌, ◌≤◌, List, [], ◌∷◌, ◌++◌, length, ℤ, nat_abs, Some, None, Option, sym, refl, ap, ◌∙◌, subst, subst₂, inl, inr, arith}
 use Rattle.std.specs.List.{remove}
 use Rattle.shots.specs.declared.shot.Shot.{Shot}
+use Rattle.shots.specs.declared.entry.Entry.{Entry}
 use Rattle.lines.specs.Lines.{any}
 use Rattle.lines.specs.declared.line.Line.{Line}
 use Rattle.lines.specs.declared.priced.PricedLine.{PricedLine}
@@ -123,21 +124,21 @@ module _ (tariff : ℤ → ℕ × ℕ) (cap : ℕ) (past : List Moment) where
   })
 
   -- ---- add
-  adds : (a h w m : ℤ) (r : Reply) (s t : Stage) → Turned (Add a h w m) r (view tariff cap (held_by past) s) (changed (Add a h w m) r (held_by past)) t → Stood tariff past s → Goes tariff cap past (Add a h w m) r t
-  adds a h w m Done s t k st =
-      let xs = held_by past ++ shot_of a h w m ∷ [] in
-      let d = after_add tariff (held_by past) (shot_of a h w m) s t st.sound k.1.1 in
+  adds : (entry : Entry) (r : Reply) (s t : Stage) → Turned (Add entry) r (view tariff cap (held_by past) s) (changed (Add entry) r (held_by past)) t → Stood tariff past s → Goes tariff cap past (Add entry) r t
+  adds entry Done s t k st =
+      let xs = held_by past ++ shot_of entry ∷ [] in
+      let d = after_add tariff (held_by past) (shot_of entry) s t st.sound k.1.1 in
       let f = fits tariff xs t d.sound in
       let f2 = fits_moves tariff xs t in
       record {
         says = (k.0, subst (λ o. Kept tariff xs o (in_force t)) (sym st.pass) d.kept);
         stood = record { sound = d.sound; pass = refl; last = d.last (last_by past) st.last; hand = (hand_of s, st.hand, hand_add tariff xs s t k.1.1); few = omega arith; fewer = omega arith };
       }
-  adds a h w m (Told x p) s t k st = absurd k.0
-  adds a h w m (Mounted c) s t k st = absurd k.0
-  adds a h w m (Slipped n) s t k st = absurd k.0
-  adds a h w m (Issued l) s t k st = absurd k.0
-  adds a h w m (Refused e) s t k st = still (Add a h w m) (Refused e) s t k.1.1 refl refl refl st.last refl st (k.0, refl)
+  adds entry (Told x p) s t k st = absurd k.0
+  adds entry (Mounted c) s t k st = absurd k.0
+  adds entry (Slipped n) s t k st = absurd k.0
+  adds entry (Issued l) s t k st = absurd k.0
+  adds entry (Refused e) s t k st = still (Add entry) (Refused e) s t k.1.1 refl refl refl st.last refl st (k.0, refl)
 
   -- ---- strike
   strikes : (p : ℤ) (r : Reply) (s t : Stage) → Turned (Strike p) r (view tariff cap (held_by past) s) (changed (Strike p) r (held_by past)) t → Stood tariff past s → Goes tariff cap past (Strike p) r t
@@ -260,7 +261,7 @@ module _ (tariff : ℤ → ℕ × ℕ) (cap : ℕ) (past : List Moment) where
   issues (Refused e) s t k st = still Issue (Refused e) s t k.1.1 refl refl refl st.last refl st ((st.pass ∙ k.0.0, k.0.1), refl)
 
   goes : (c : Call) (r : Reply) (s t : Stage) → Turned c r (view tariff cap (held_by past) s) (changed c r (held_by past)) t → Stood tariff past s → Goes tariff cap past c r t
-  goes (Add a h w m) r s t k st = adds a h w m r s t k st
+  goes (Add entry) r s t k st = adds entry r s t k st
   goes (Strike p) r s t k st = strikes p r s t k st
   goes Pivot r s t k st = pivots r s t k.1 st
   goes (Mount a b) r s t k st = mounts a b r s t k st
@@ -269,13 +270,13 @@ module _ (tariff : ℤ → ℕ × ℕ) (cap : ℕ) (past : List Moment) where
 
 -- ---- the shots held after a call
 module _ (v : View) where
-  add_holds : (a h w m : ℤ) (r : Reply) (xs : List Shot) (t : Stage) → Turned (Add a h w m) r v xs t → xs ≡ changed (Add a h w m) r v.held
-  add_holds a h w m Done xs t k = k.1.0.2 ∙ ap (λ z. v.held ++ z ∷ []) (reads_is k.1.0.0 a h w m k.1.0.1)
-  add_holds a h w m (Told x p) xs t k = absurd k.0
-  add_holds a h w m (Mounted c) xs t k = absurd k.0
-  add_holds a h w m (Slipped n) xs t k = absurd k.0
-  add_holds a h w m (Issued l) xs t k = absurd k.0
-  add_holds a h w m (Refused e) xs t k = k.1.0
+  add_holds : (entry : Entry) (r : Reply) (xs : List Shot) (t : Stage) → Turned (Add entry) r v xs t → xs ≡ changed (Add entry) r v.held
+  add_holds entry Done xs t k = k.1.0.2 ∙ ap (λ z. v.held ++ z ∷ []) (reads_is k.1.0.0 entry k.1.0.1)
+  add_holds entry (Told x p) xs t k = absurd k.0
+  add_holds entry (Mounted c) xs t k = absurd k.0
+  add_holds entry (Slipped n) xs t k = absurd k.0
+  add_holds entry (Issued l) xs t k = absurd k.0
+  add_holds entry (Refused e) xs t k = k.1.0
 
   strike_holds : (p : ℤ) (r : Reply) (xs : List Shot) (t : Stage) → Turned (Strike p) r v xs t → xs ≡ changed (Strike p) r v.held
   strike_holds p Done xs t k = k.1.0
@@ -286,7 +287,7 @@ module _ (v : View) where
   strike_holds p (Refused e) xs t k = k.1.0
 
   holds : (c : Call) (r : Reply) (xs : List Shot) (t : Stage) → Turned c r v xs t → xs ≡ changed c r v.held
-  holds (Add a h w m) r xs t k = add_holds a h w m r xs t k
+  holds (Add entry) r xs t k = add_holds entry r xs t k
   holds (Strike p) r xs t k = strike_holds p r xs t k
   holds Pivot r xs t k = k.0
   holds (Mount a b) r xs t k = k.1.0

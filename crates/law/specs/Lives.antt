@@ -49,7 +49,7 @@ use Rattle.law.specs.declared.kinds.Moment.{Moment}
 use Rattle.law.specs.Replies.{shot_of, IfDone, if_done, AddReplies, StrikeReplies, MountReplies, SlipReplies, IssueReplies}
 
 abbrev pub changed : Call → Reply → List Shot → List Shot
-changed (Add n) r xs = if_done r (xs ++ shot_of n ∷ []) xs
+changed (Add entry) r xs = if_done r (xs ++ shot_of entry ∷ []) xs
 changed (Strike p) r xs = if_done r (remove xs (unsigned_abs p)) xs
 changed Pivot r xs = xs
 changed (Mount a b) r xs = xs
@@ -82,7 +82,7 @@ HandStruck xs None o = o ≡ None
 HandStruck xs (Some l) o = (TwoSpeeds l xs × (o ≡ Some l)) ⊎ ((TwoSpeeds l xs → ⊥) × (o ≡ None))
 
 abbrev pub HandAfter : Call → Reply → List Shot → Option Line → Option Line → Type 0
-HandAfter (Add n) r xs p o = o ≡ p
+HandAfter (Add entry) r xs p o = o ≡ p
 HandAfter (Strike i) r xs p o = IfDone r (HandStruck xs p o) (o ≡ p)
 HandAfter Pivot r xs p o = o ≡ answered r p
 HandAfter (Mount a b) r xs p o = o ≡ p
@@ -116,7 +116,7 @@ counts_reply f (Issued l) n = n
 counts_reply f (Refused e) n = n
 
 abbrev pub counts : (Word → ℕ → ℕ) → Call → Reply → ℕ → ℕ
-counts f (Add e) r n = if_done r 0 n
+counts f (Add entry) r n = if_done r 0 n
 counts f (Strike p) r n = if_done r 0 n
 counts f Pivot r n = counts_reply f r n
 counts f (Mount a b) r n = n
@@ -185,9 +185,9 @@ PivotSays tariff past (Issued l) after = ⊥
 PivotSays tariff past (Refused e) after = OneSpeed (held_by past) × (e ≡ OneSpeedRefusal) × (in_force_by past ≡ None) × (after ≡ in_force_by past)
 
 abbrev pub CallSays : (ℤ → ℕ × ℕ) → ℕ → List Moment → Call → Reply → Option Line → Type 0
-CallSays tariff cap past (Add n) r after =
-    AddReplies cap (held_by past) n r
-    × IfDone r (Kept tariff (changed (Add n) r (held_by past)) (in_force_by past) after) (after ≡ in_force_by past)
+CallSays tariff cap past (Add entry) r after =
+    AddReplies cap (held_by past) entry r
+    × IfDone r (Kept tariff (changed (Add entry) r (held_by past)) (in_force_by past) after) (after ≡ in_force_by past)
 CallSays tariff cap past (Strike p) r after =
     StrikeReplies (held_by past) p r
     × IfDone r (Kept tariff (changed (Strike p) r (held_by past)) (in_force_by past) after) (after ≡ in_force_by past)

@@ -23,18 +23,18 @@ use Rattle.law.specs.declared.kinds.Reply.{Reply}
 use Rattle.law.specs.declared.kinds.Reply.TheVariants.{Done, Told, Mounted, Slipped, Issued, Refused}
 
 unfoldable pub shot_of : Entry → Shot
-shot_of n = record {
-  speed = max 1 (min 4000 (unsigned_abs n.speed));
-  lead = int_max (negsuc 7999) (int_min (pos 8000) n.lead);
-  weight = max 1 (min 100 (unsigned_abs n.weight));
-  stuff = max 0 (min 15 (unsigned_abs n.stuff));
-  moving = least (unsigned_abs n.speed) 1 4000;
-  slow = most (unsigned_abs n.speed) 1 4000 (lit≤ tt);
-  low = lead_least n.lead;
-  high = lead_most n.lead;
-  counted = least (unsigned_abs n.weight) 1 100;
-  light = most (unsigned_abs n.weight) 1 100 (lit≤ tt);
-  coded = most (unsigned_abs n.stuff) 0 15 (lit≤ tt);
+shot_of entry = record {
+  speed = max 1 (min 4000 (unsigned_abs entry.speed));
+  lead = int_max (negsuc 7999) (int_min (pos 8000) entry.lead);
+  weight = max 1 (min 100 (unsigned_abs entry.weight));
+  stuff = max 0 (min 15 (unsigned_abs entry.stuff));
+  moving = least (unsigned_abs entry.speed) 1 4000;
+  slow = most (unsigned_abs entry.speed) 1 4000 (lit≤ tt);
+  low = lead_least entry.lead;
+  high = lead_most entry.lead;
+  counted = least (unsigned_abs entry.weight) 1 100;
+  light = most (unsigned_abs entry.weight) 1 100 (lit≤ tt);
+  coded = most (unsigned_abs entry.stuff) 0 15 (lit≤ tt);
 }
 
 abbrev pub IfDone : Reply → Type 0 → Type 0 → Type 0
@@ -54,12 +54,12 @@ if_done (Issued l) x y = y
 if_done (Refused e) x y = y
 
 abbrev pub AddReplies : ℕ → List Shot → Entry → Reply → Type 0
-AddReplies cap xs n Done = add_fault cap xs n ≡ None
-AddReplies cap xs n (Told t p) = ⊥
-AddReplies cap xs n (Mounted c) = ⊥
-AddReplies cap xs n (Slipped k) = ⊥
-AddReplies cap xs n (Issued l) = ⊥
-AddReplies cap xs n (Refused e) = add_fault cap xs n ≡ Some e
+AddReplies cap xs entry Done = add_fault cap xs entry ≡ None
+AddReplies cap xs entry (Told t p) = ⊥
+AddReplies cap xs entry (Mounted c) = ⊥
+AddReplies cap xs entry (Slipped k) = ⊥
+AddReplies cap xs entry (Issued l) = ⊥
+AddReplies cap xs entry (Refused e) = add_fault cap xs entry ≡ Some e
 
 abbrev pub StrikeReplies : List Shot → ℤ → Reply → Type 0
 StrikeReplies xs p Done = Holds xs p

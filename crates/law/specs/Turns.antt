@@ -69,9 +69,9 @@ Pivots tariff xs s (Refused e) t = (s ≡ Bare) × (t ≡ Bare) × OneSpeed xs �
 
 -- xs are the shots held after the call, and t is the stage after it
 abbrev pub Turned : Call → Reply → View → List Shot → Stage → Type 0
-Turned (Add n) r v xs t =
-    AddReplies v.capacity v.held n r
-    × IfDone r (((z : Shot) × Reads z n × (xs ≡ v.held ++ z ∷ [])) × AfterAdd v.tariff xs v.stage t) ((xs ≡ v.held) × (t ≡ v.stage))
+Turned (Add entry) r v xs t =
+    AddReplies v.capacity v.held entry r
+    × IfDone r (((z : Shot) × Reads z entry × (xs ≡ v.held ++ z ∷ [])) × AfterAdd v.tariff xs v.stage t) ((xs ≡ v.held) × (t ≡ v.stage))
 Turned (Strike p) r v xs t =
     StrikeReplies v.held p r
     × IfDone r ((xs ≡ remove v.held (unsigned_abs p)) × AfterStrike v.tariff xs v.stage t) ((xs ≡ v.held) × (t ≡ v.stage))

@@ -3,19 +3,21 @@ use Rattle.std.proofs.Common.{◌≡◌, ℕ, List, ℤ, pos, Some, None, Option
 use Rattle.std.proofs.lemmas.Int.{ints}
 use Rattle.shots.specs.declared.shot.Shot.{Shot}
 use Rattle.shots.specs.declared.refusal.Refusal.{Refusal}
+use Rattle.shots.specs.declared.refusal.Refusal.TheVariants.{OneSpeed as OneSpeedRefusal}
 use Rattle.lines.specs.declared.line.Line.{Line}
 use Rattle.racks.specs.Racks.{Holds}
 use Rattle.fit.specs.Offsets.{OffsetOf}
+use Rattle.fit.specs.First.{OneSpeed}
 use Rattle.fit.specs.Testing.{First, Tested}
 use Rattle.fit.specs.declared.testing.Outcome.{Outcome}
 use Rattle.fit.specs.Totals.{total_of}
 use Rattle.fit.specs.Turning.{Descends}
 use Rattle.law.specs.declared.stage.Stage.{Stage}
-use Rattle.law.specs.declared.stage.Stage.TheVariants.{Trying}
+use Rattle.law.specs.declared.stage.Stage.TheVariants.{Bare, Trying}
 use Rattle.law.specs.declared.kinds.Word.{Word}
 use Rattle.law.specs.declared.kinds.Pivoted.{Pivoted}
 use Rattle.law.specs.declared.kinds.Call.TheVariants.{Pivot, Mount}
-use Rattle.law.specs.declared.kinds.Reply.TheVariants.{Told}
+use Rattle.law.specs.declared.kinds.Reply.TheVariants.{Told, Refused}
 use Rattle.law.specs.Turns.{ByWord}
 use Rattle.law.specs.Replies.{MountReplies}
 use Rattle.law.specs.Ties.{Called}
@@ -63,3 +65,7 @@ tells v t s p w m es ew em et by = called (record {
 -- what was found of a line that is tried is what the test says of it
 pub found : (tariff : ℤ → ℕ × ℕ) (xs : List Shot) (s : Stage) (o : Outcome) (l : Line) (p : Outcome) → Judged tariff xs s o → s ≡ Trying l → o ≡ p → Tested tariff l xs p
 found tariff xs s o l p h es eo = subst (Tested tariff l xs) eo (subst (λ t. Judged tariff xs t o) es h)
+
+-- a bare sheet whose shots have one speed refuses a pivot
+pub lacks : (v : View) → v.stage ≡ Bare → OneSpeed v.held → Called Pivot (Refused OneSpeedRefusal) v v
+lacks v e one = called (record { room = refl; prices = refl; turned = (refl, (e, e, one, refl)) })

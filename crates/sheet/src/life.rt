@@ -97,13 +97,8 @@ fn answer<R: Rack, P: PriceRule>(sheet: &mut Sheet<R, P>, call: Call) -> Result<
     ensures rule { sheet.new.rule ≡ sheet.old.rule }
 {
     Ok(match call {
-        Call::Add {
-            speed,
-            lead,
-            weight,
-            stuff,
-        } => {
-            sheet.add(speed, lead, weight, stuff)?;
+        Call::Add(entry) => {
+            sheet.add(entry)?;
             Reply::Done
         }
         Call::Strike { place } => {

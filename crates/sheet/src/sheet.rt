@@ -17,7 +17,7 @@ use fit::{Outcome, first_line, offset};
 use law::{Pivoted, Stage, Word};
 use lines::Line;
 use racks::Rack;
-use shots::{PriceRule, Refusal};
+use shots::{Entry, PriceRule, Refusal};
 use slips::{Row, write_rows};
 
 /// A sheet: a rack of shots, a price rule, and how far the line for them has come. It is bare, trying
@@ -60,11 +60,11 @@ impl<R: Rack, P: PriceRule> Sheet<R, P> {
 
     /// Puts the shot of four numbers at the end; refused by the rack's refusals, which leave everything.
     /// A line in force stays so if it passes the test over the shots now held, else it is tried again.
-    pub fn add(&mut self, speed: i32, lead: i32, weight: i32, stuff: i32) -> Result<(), Refusal>
-        ensures called { Called (Add speed lead weight stuff) (done_reply result) (sees R.Rack.held R.Rack.capacity P.PriceRule.tariff self.old) (sees R.Rack.held R.Rack.capacity P.PriceRule.tariff self.new) }
+    pub fn add(&mut self, entry: Entry) -> Result<(), Refusal>
+        ensures called { Called (Add entry) (done_reply result) (sees R.Rack.held R.Rack.capacity P.PriceRule.tariff self.old) (sees R.Rack.held R.Rack.capacity P.PriceRule.tariff self.new) }
         ensures rule { self.new.rule ≡ self.old.rule }
     {
-        self.rack.add(speed, lead, weight, stuff)?;
+        self.rack.add(entry)?;
         self.inner.stage = self.after_add();
         Ok(())
     }

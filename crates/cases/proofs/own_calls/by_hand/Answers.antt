@@ -21,4 +21,5 @@ returns g c empty =
     let f1 = c.ranges.speed in
     let f2 = c.ranges.lead in
     let f3 = c.ranges.place in
-    gives l6 prices room (simp to_z-of_z refl) c.issue.ensures.line
+    let added_entry = simp to_z-of_z at c.new.ensures in
+    gives l6 prices room (simp (to_z-of_z, added_entry) refl) c.issue.ensures.line
