@@ -1,6 +1,6 @@
 //! The rules at work, on numbers that are worked out by hand.
 use crate::{Line, PricedLine, Side, Slope, gcd, reduced};
-use shots::Shot;
+use shots::{Entry, Shot};
 use std::test::Fail;
 
 /// The three numbers of a line; three zeros, which make none, where there is none.
@@ -15,7 +15,7 @@ fn terms(slope: Option<Slope>) -> (i32, i32) {
 
 /// A shot that counts twice.
 fn shot(speed: i32, lead: i32) -> Result<Shot, Fail> {
-    Ok(Shot::new(speed, lead, 2, 0)?)
+    Ok(Shot::try_from(Entry::new(speed, lead, 2, 0))?)
 }
 
 /// The line of three numbers.
