@@ -1,7 +1,6 @@
 //! The slip of a line: one row for each held shot on it, with the shot's place and its two rates.
 #![tactic(auto)]
 
-mod place;
 mod row;
 mod rows;
 

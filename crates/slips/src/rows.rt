@@ -3,7 +3,6 @@ ghost use Rattle.std.specs.Prelude.{◌≡◌, ◌<◌, ◌≤◌, ◌++◌, len
 ghost use Rattle.lines.specs.Lines.{On};
 ghost use Rattle.slips.specs.Rows.{on_line, rows_of, RowAt, Written};
 
-use crate::place::shot_at;
 use crate::row::Row;
 use fit::{fall_rate, rise_rate};
 use lines::Line;
@@ -34,13 +33,7 @@ pub fn write_rows<R: Rack, P: PriceRule>(
 fn count_on<R: Rack>(rack: &R, line: Line) -> usize
     ensures { result ≡ on_line line (R.Rack.held rack.now) }
 {
-    let mut count: usize = 0;
-    for place in 0..rack.count() {
-        if is_on(line, shot_at(rack, place)) {
-            count += 1;
-        }
-    }
-    count
+    rack.iter().filter(|shot| is_on(line, *shot)).count()
 }
 
 // Whether a shot is on the line.
@@ -55,7 +48,7 @@ fn fill<R: Rack, P: PriceRule>(rack: &R, rule: &P, line: Line, table: &mut [Row]
     requires { on_line line (R.Rack.held rack.now) ≤ length table.old }
     ensures { table.new ≡ rows_of (P.PriceRule.tariff rule.now) line (R.Rack.held rack.now) ++ drop (on_line line (R.Rack.held rack.now)) table.old }
 {
-    let mut count: usize = 0;
+    let mut count = 0;
     for place in 0..rack.count() {
         if let Some(row) = row_at(rack, rule, line, place) {
             table[count] = row;
@@ -70,11 +63,7 @@ fn row_at<R: Rack, P: PriceRule>(rack: &R, rule: &P, line: Line, place: usize) -
     ensures { RowAt (P.PriceRule.tariff rule.now) line (R.Rack.held rack.now) place result }
 {
     // a rack holds at most 512 shots, so the place fits
-    match rise_rate(rack, rule, line, place as i32) {
-        Some(rise) => match fall_rate(rack, rule, line, place as i32) {
-            Some(fall) => Some(Row { place, rise, fall }),
-            None => None,
-        },
-        None => None,
-    }
+    let rise = rise_rate(rack, rule, line, place as i32)?;
+    let fall = fall_rate(rack, rule, line, place as i32)?;
+    Some(Row { place, rise, fall })
 }

@@ -1,20 +1,13 @@
--- `count_on`: one shot more, on the line or off it.
-use Rattle.std.proofs.Common.{arith}
-use Rattle.std.proofs.lemmas.Bool.Decides.{not_from_Decides}
-use Rattle.slips.proofs.Counts.{few, count_on_lem, count_off, count_all}
+-- `count_on`: as many as pass the test.
+use Rattle.std.proofs.Common.{◌∙◌, rules}
+use borrow.Author.Tests.{tests}
+use Rattle.std.proofs.lemmas.Iterator.Consumers.{YieldsList-from_first, YieldsList-from_filter, YieldsList-at, count_from_yields_List}
+use Rattle.slips.proofs.Counts.{on_test, decided, all_that_pass}
 use Rattle.slips.proofs.rows.count_on.Goals as goal
-use Rattle.slips.proofs.rows.count_on.Goals.{then-is_on, else-is_on}
-
-pub overflow_add-count : goal.overflow_add-count
-overflow_add-count g c =
-    let b = g.R.Rack.bounded c.args.rack.now in
-    omega (arith, few c.args.line (g.R.Rack.held c.args.rack.now))
-
-pub loop-place-preserved : goal.loop-place-preserved
-loop-place-preserved g c = elim c.if-is_on.branch [
-  | then-is_on w ↦ rw w.count-is (count_on_lem c.loop-place.invariant (omega arith) c.shot_at.result c.shot_at.ensures (c.is_on.ensures.0 w.if-is_on.true))
-  | else-is_on w ↦ rw w.count-is (count_off c.loop-place.invariant (omega arith) c.shot_at.result c.shot_at.ensures (not_from_Decides _ c.is_on.ensures w.if-is_on.false))
-]
 
 pub returns : goal.returns
-returns g c = count_all c.loop-place.invariant (omega arith)
+returns g c =
+    let held = g.R.Rack.held c.args.rack.now in
+    let line = c.args.line in
+    count_from_yields_List c.filter.result c.count.result c.count.ensures.ran (YieldsList-from_filter _ (on_test line) (YieldsList-at c.filter.ensures.source (YieldsList-from_first (λ x. x) (λ left. left) held c.iter.ensures.shots)) c.filter.ensures.closure (λ x b q k. (search (rules, tests), decided line x b (search (rules, tests)))))
+    ∙ all_that_pass line held
