@@ -3,6 +3,7 @@ pub mod Orders
 pub mod Sums
 pub mod Sides
 pub mod Weighing
+pub mod Counting
 pub mod Picking
 pub mod Greatest
 pub mod Closing

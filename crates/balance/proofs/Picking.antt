@@ -51,9 +51,9 @@ module _ {K : Type 0} (le : K → K → Bool) (ps : List (Pull K)) (low : Option
       record { place = q.place; pull = p; there = q.there; read = q.read; same = refl; lies = q.passes; middle = q.before }
 
   -- the n elements that pass, and the one at half of n
-  pub middle : (o : Option (Bor (Pull K))) {r : Option K} {n : ℕ} → r ≡ option_map (λ p. p.now.key) o → option_map (λ p. p.now) o ≡ slice_get (filter (within le low high) ps) (n / 2) → n ≡ length (filter (within le low high) ps) → Between le ps low high r
+  pub middle : (o : Option (Bor (Pull K))) {r : Option K} {n : ℕ} → r ≡ option_map (λ p. p.now.key) o → option_map (λ p. p.now) o ≡ slice_get (filter (within le low high) ps) (n / 2) → n ≡ count_by (within le low high) ps → Between le ps low high r
   middle o key nth count =
-      subst (Between le ps low high) (sym (key ∙ keyed o)) (found (option_map (λ p. p.now) o) (ap (λ k. slice_get (filter (within le low high) ps) (k / 2)) (sym (count ∙ length-filter (within le low high) ps)) ∙ sym nth))
+      subst (Between le ps low high) (sym (key ∙ keyed o)) (found (option_map (λ p. p.now) o) (ap (λ k. slice_get (filter (within le low high) ps) (k / 2)) (sym count) ∙ sym nth))
     where
       keyed : (o : Option (Bor (Pull K))) → option_map (λ p. p.now.key) o ≡ option_map (λ p. p.key) (option_map (λ p. p.now) o)
       keyed None = refl
