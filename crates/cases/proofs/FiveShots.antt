@@ -1,6 +1,6 @@
 -- The five shots: the level line, which is not the cheapest, the three pivots that bring a line into force, and what a
 -- strike does to that line.
-use Rattle.std.proofs.Common.{◌≡◌, List, pos, negsuc, sym, refl, ◌∙◌, inl, inr, arith}
+use Rattle.std.proofs.Common.{◌≡◌, List, pos, negsuc, sym, refl, ◌∙◌, inl, inr, arith, Some, None, Option, ℕ}
 use native.Mathlib.Nat.{dvd_refl, dvd-mul_right}
 use Rattle.std.proofs.lemmas.Int.{ints}
 use Rattle.shots.specs.Prices.{even}
@@ -18,7 +18,6 @@ use Rattle.fit.specs.Rates.{fall_at}
 use Rattle.fit.specs.Spanning.{Member, TwoSpeeds}
 use Rattle.fit.specs.Testing.{First, Fails}
 use Rattle.fit.specs.Totals.{paid, total_of}
-use Rattle.fit.specs.declared.testing.Outcome.TheVariants.{Passes, FailsAt}
 use Rattle.law.specs.declared.stage.Stage.TheVariants.{Bare, Trying, InForce}
 use Rattle.law.specs.declared.kinds.Call.TheVariants.{Strike, Pivot}
 use Rattle.law.specs.declared.kinds.Word.TheVariants.{Laid, Moved, Proved}
@@ -154,7 +153,7 @@ unfolding miss rise_part fall_part
 four_pass = passes gentle without2000 (fine (record { le = tt }) (record { le = tt }), (λ on. omega (arith, ints), (λ on. omega (arith, ints), (fine (record { le = tt }) (record { le = tt }), tt))))
 
 pub keeps : Turn (Strike (pos 2)) Done (sheet five_shots (InForce gentle)) (sheet without2000 (InForce gentle))
-keeps = record { room = refl; prices = refl; turned = ((record { le = tt }, record { lt = tt }), (refl, inl (four_two, (Passes, four_pass, refl)))) }
+keeps = record { room = refl; prices = refl; turned = ((record { le = tt }, record { lt = tt }), (refl, inl (four_two, (None, four_pass, refl)))) }
 
 -- ---- the strike after which a cheaper line exists, and the pivot that moves to it
 without500_two : TwoSpeeds gentle without500
@@ -180,7 +179,7 @@ gentle_fails = record {
 }
 
 pub unsettles : Turn (Strike (pos 0)) Done (sheet five_shots (InForce gentle)) (sheet without500 (Trying gentle))
-unsettles = record { room = refl; prices = refl; turned = ((record { le = tt }, record { lt = tt }), (refl, inl (without500_two, (FailsAt 1, gentle_fails, refl)))) }
+unsettles = record { room = refl; prices = refl; turned = ((record { le = tt }, record { lt = tt }), (refl, inl (without500_two, (Some 1, gentle_fails, refl)))) }
 
 level_total : pos 20 ≡ total_of even level without500
 unfolding paid cost miss

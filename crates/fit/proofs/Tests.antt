@@ -1,7 +1,8 @@
 -- The test over shots is the test over their points, so it decides whether a line is cheapest.
-use Rattle.std.proofs.Common.{◌≡◌, ℕ, zero, suc, ◌<◌, true, List, [], ◌∷◌, map, length, get_or, ℤ, pos, ◌≤ℤ◌, sym, refl, subst, inl, inr, ⊎_elim, arith}
+use Rattle.std.proofs.Common.{◌≡◌, ℕ, zero, suc, ◌<◌, true, Some, None, Option, MatchOption, HoldsAt, List, [], ◌∷◌, map, length, get_or, ℤ, pos, ◌≤ℤ◌, sym, refl, subst, inl, inr, ⊎_elim, arith}
 use lib.Signed.{lt_z}
 use Rattle.std.proofs.lemmas.Int.{ints, by_lt_z}
+use Rattle.std.specs.List.{AllWithin}
 use Rattle.shots.specs.declared.shot.Shot.{Shot}
 use Rattle.lines.specs.Lines.{any, On}
 use Rattle.lines.specs.declared.line.Line.{Line}
@@ -9,7 +10,8 @@ use Rattle.theory.specs.Points.{In, Cheapest, Spans, On as OnPoint}
 use Rattle.theory.specs.Rates.{rise_of, fall_of, Failing, Passing, Passes}
 use Rattle.theory.proofs.Descent.{test_exact}
 use Rattle.fit.specs.Points.{point, points}
-use Rattle.fit.specs.Testing.{Fails, First}
+use Rattle.fit.specs.Testing.{Fails, First, Tested, Best}
+use Rattle.fit.proofs.Held.{each_within, one_within}
 use Rattle.fit.proofs.Lifting.{is_lt}
 
 -- an element of a list of images, and where it comes from
@@ -53,6 +55,16 @@ module _ (tariff : ℤ → ℕ × ℕ) (l : Line) (xs : List Shot) where
       let z = f.shot in
       let p = (test_exact (any l) (points tariff xs) l.ahead s).1 b (point tariff z) (in_image (point tariff) xs k z f.inside f.is) f.fails.0 in
       ⊎_elim (λ r. omega (arith, ints, p.rise, r)) (λ r. omega (arith, ints, p.fall, r)) f.fails.1
+
+  -- the first place whose shot fails, if there is one, is what the test says
+  pub found : (r : Option ℕ) → MatchOption r (AllWithin (λ y. Fails tariff l xs y → ⊥) xs 0 (length xs)) (λ k. (k < length xs) × HoldsAt (Fails tariff l xs) xs k × AllWithin (λ y. Fails tariff l xs y → ⊥) xs 0 k) → Tested tariff l xs r × Best tariff l xs r
+  found None h =
+      let p = none_fails (each_within (λ y. Fails tariff l xs y → ⊥) xs (length xs) h) in
+      (p, passes_best p)
+  found (Some k) h =
+      let x = one_within (Fails tariff l xs) xs k h.0 h.1 in
+      let first : First tariff l xs k = record { inside = h.0; shot = x.0; is = x.1; fails = x.2; before = each_within (λ y. Fails tariff l xs y → ⊥) xs k h.2 } in
+      (first, fails_worse k first)
 
   -- a shot on the line whose rise rate is at least 0 fails by its fall rate, or not at all
   pub by_fall : (z : Shot) (r f g : ℤ) → On l z → r ≡ rise_of (any l) (points tariff xs) (point tariff z) → pos 0 ≤ℤ r → f ≡ fall_of (any l) (points tariff xs) (point tariff z) → g ≡ f → (lt_z g (pos 0) ≡ true → Fails tariff l xs z) × (Fails tariff l xs z → lt_z g (pos 0) ≡ true)

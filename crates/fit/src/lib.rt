@@ -3,8 +3,8 @@
 #![tactic(auto)]
 
 mod first;
+mod fit;
 mod mounting;
-mod on;
 mod prices;
 mod rates;
 mod spanning;
@@ -15,9 +15,5 @@ mod turning;
 mod ways;
 
 pub use first::first_line;
-pub use mounting::offset;
-pub use rates::{fall_rate, rise_rate};
+pub use fit::Fit;
 pub use spanning::has_two_speeds;
-pub use testing::{Outcome, test_line};
-pub use totals::total;
-pub use turning::turned_line;

@@ -4,46 +4,48 @@ ghost use Rattle.theory.specs.Offsets.{BalancedOffset};
 ghost use Rattle.fit.specs.Points.{points};
 ghost use Rattle.fit.specs.Offsets.{IsSlope, pull_at, OffsetOf, OffsetBest};
 
-use crate::prices::prices_of;
+use crate::fit::Fit;
 use balance::{Pull, whole_balance_point};
 use racks::{MOST_SHOTS, Rack, is_empty};
 use shots::{PriceRule, Refusal, Shot};
 
-/// The offset C for a known slope B/A: the balance point of the keys A·h - B·s of all held shots,
-/// with the weight times the late price as under price and the weight times the early price as over
-/// price. Of all lines of this slope none is cheaper, and each of lower offset is dearer. Refused by
-/// `Slope` where A is outside 1 to 4000 or B outside -16000 to 16000, then by `Empty` where no shot
-/// is held. A need not be reduced against B.
-pub fn offset<R: Rack, P: PriceRule>(rack: &R, rule: &P, a: i32, b: i32) -> Result<i32, Refusal>
-    ensures offset { OffsetOf (P.PriceRule.tariff rule.now) a b (R.Rack.held rack.now) result }
-    ensures cheapest { OffsetBest (P.PriceRule.tariff rule.now) a b (R.Rack.held rack.now) result }
-{
-    if a < 1 || a > 4000 || b < -16000 || b > 16000 {
-        return Err(Refusal::Slope);
+impl<R: Rack, P: PriceRule> Fit<'_, R, P> {
+    /// The offset C for a known slope B/A: the balance point of the keys A·h - B·s of all held shots,
+    /// with the weight times the late price as under price and the weight times the early price as over
+    /// price. Of all lines of this slope none is cheaper, and each of lower offset is dearer. Refused by
+    /// `Slope` where A is outside 1 to 4000 or B outside -16000 to 16000, then by `Empty` where no shot
+    /// is held. A need not be reduced against B.
+    pub fn offset(&self, a: i32, b: i32) -> Result<i32, Refusal>
+        ensures offset { OffsetOf (P.PriceRule.tariff self.now.rule.now) a b (R.Rack.held self.now.rack.now) result }
+        ensures cheapest { OffsetBest (P.PriceRule.tariff self.now.rule.now) a b (R.Rack.held self.now.rack.now) result }
+    {
+        if a < 1 || a > 4000 || b < -16000 || b > 16000 {
+            return Err(Refusal::Slope);
+        }
+        if is_empty(self.rack) {
+            return Err(Refusal::Empty);
+        }
+        Ok(self.balanced(a, b))
     }
-    if is_empty(rack) {
-        return Err(Refusal::Empty);
-    }
-    Ok(balanced(rack, rule, a, b))
-}
 
-// The offset of a slope in range, where a shot is held.
-fn balanced<R: Rack, P: PriceRule>(rack: &R, rule: &P, a: i32, b: i32) -> i32
-    requires slope { IsSlope a b }
-    requires some { 0 < length (R.Rack.held rack.now) }
-    ensures { BalancedOffset a b (points (P.PriceRule.tariff rule.now) (R.Rack.held rack.now)) result }
-{
-    let mut pulls = [Pull {
-        key: 0,
-        under: 1,
-        over: 1,
-    }; MOST_SHOTS];
-    for (place, shot) in rack.iter().enumerate() {
-        pulls[place] = offset_pull(a, b, shot, prices_of(rule, shot));
-    }
-    match whole_balance_point(&pulls[..rack.count()]) {
-        Some(balance) => balance.lowest,
-        None => unreachable(),
+    // The offset of a slope in range, where a shot is held.
+    fn balanced(&self, a: i32, b: i32) -> i32
+        requires slope { IsSlope a b }
+        requires some { 0 < length (R.Rack.held self.now.rack.now) }
+        ensures { BalancedOffset a b (points (P.PriceRule.tariff self.now.rule.now) (R.Rack.held self.now.rack.now)) result }
+    {
+        let mut pulls = [Pull {
+            key: 0,
+            under: 1,
+            over: 1,
+        }; MOST_SHOTS];
+        for (place, shot) in self.rack.iter().enumerate() {
+            pulls[place] = offset_pull(a, b, shot, self.prices_of(shot));
+        }
+        match whole_balance_point(&pulls[..self.rack.count()]) {
+            Some(balance) => balance.lowest,
+            None => unreachable(),
+        }
     }
 }
 

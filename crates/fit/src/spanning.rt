@@ -3,7 +3,6 @@ ghost use Rattle.std.specs.Prelude.{◌≡◌, Decides, MatchOption, ◌≢◌};
 ghost use Rattle.lines.specs.Lines.{On};
 ghost use Rattle.fit.specs.Spanning.{OnOther, NoneOn, SpeedOn, TwoSpeeds, SpansAll};
 
-use crate::on::is_on;
 use lines::Line;
 use racks::Rack;
 use shots::Shot;
@@ -20,7 +19,7 @@ pub fn has_two_speeds<R: Rack>(rack: &R, line: Line) -> bool
 fn speed_on<R: Rack>(rack: &R, line: Line) -> Option<u16>
     ensures { MatchOption result (NoneOn line (R.Rack.held rack.now)) (λ v. SpeedOn line (R.Rack.held rack.now) v) }
 {
-    let shot = rack.iter().find(|shot| is_on(line, *shot))?;
+    let shot = rack.iter().find(|shot| line.passes_through(*shot))?;
     Some(shot.speed)
 }
 
@@ -35,5 +34,5 @@ fn is_other_on<R: Rack>(rack: &R, line: Line, speed: u16) -> bool
 fn is_on_at_other(line: Line, shot: Shot, speed: u16) -> bool
     ensures { Decides result (On line shot × (shot.speed ≢ speed)) }
 {
-    is_on(line, shot) && shot.speed != speed
+    line.passes_through(shot) && shot.speed != speed
 }

@@ -2,49 +2,51 @@
 ghost use Rattle.std.specs.Prelude.{◌≡◌, ◌*◌, ◌≤◌, length, MatchOption};
 ghost use Rattle.fit.specs.Turning.{PullFrom, PullAt, Filled, TurnedAbout, TurnedAt, Descends, LowestAt};
 
-use crate::prices::prices_of;
+use crate::fit::Fit;
 use balance::{Pull, balance_point};
 use lines::{Line, Slope, reduced};
 use racks::{MOST_SHOTS, Rack};
 use shots::{PriceRule, Shot};
 
-/// The line through the shot at a place with the balance slope: each held shot of another speed pulls
-/// with key (h - hz)/(s - sz); its under and over prices are w·late·(s - sz) and w·early·(s - sz) if
-/// s > sz, and w·early·(sz - s) and w·late·(sz - s), the other way round, if s < sz. None where no
-/// shot is held there, or no held shot has another speed.
-pub fn turned_line<R: Rack, P: PriceRule>(rack: &R, rule: &P, place: i32) -> Option<Line>
-    ensures turned { TurnedAt (P.PriceRule.tariff rule.now) (R.Rack.held rack.now) place result }
-    ensures descends { Descends (P.PriceRule.tariff rule.now) (R.Rack.held rack.now) place result }
-    ensures lowest { LowestAt (P.PriceRule.tariff rule.now) (R.Rack.held rack.now) place result }
-{
-    let z = rack.read(place).ok()?;
-    turn_about(rack, rule, z)
-}
-
-// The same about a shot.
-fn turn_about<R: Rack, P: PriceRule>(rack: &R, rule: &P, z: Shot) -> Option<Line>
-    ensures { TurnedAbout (P.PriceRule.tariff rule.now) (R.Rack.held rack.now) z result }
-{
-    let mut pulls = [blank(); MOST_SHOTS];
-    let count = fill(rack, rule, z, &mut pulls);
-    let balance = balance_point(&pulls[..count])?;
-    // a key between two shots fits a line
-    Line::about(z, balance.lowest)
-}
-
-// Writes the pulls of all held shots of another speed, and says how many there are.
-fn fill<R: Rack, P: PriceRule>(rack: &R, rule: &P, z: Shot, pulls: &mut [Pull<Slope>]) -> usize
-    requires { length pulls.old ≡ 512 }
-    ensures { Filled (P.PriceRule.tariff rule.now) z (R.Rack.held rack.now) pulls.new result }
-{
-    let mut count = 0;
-    for shot in rack.iter() {
-        if let Some(pull) = turn_pull(z, shot, prices_of(rule, shot)) {
-            pulls[count] = pull;
-            count += 1;
-        }
+impl<R: Rack, P: PriceRule> Fit<'_, R, P> {
+    /// The line through the shot at a place with the balance slope: each held shot of another speed pulls
+    /// with key (h - hz)/(s - sz); its under and over prices are w·late·(s - sz) and w·early·(s - sz) if
+    /// s > sz, and w·early·(sz - s) and w·late·(sz - s), the other way round, if s < sz. None where no
+    /// shot is held there, or no held shot has another speed.
+    pub fn turned_line(&self, place: i32) -> Option<Line>
+        ensures turned { TurnedAt (P.PriceRule.tariff self.now.rule.now) (R.Rack.held self.now.rack.now) place result }
+        ensures descends { Descends (P.PriceRule.tariff self.now.rule.now) (R.Rack.held self.now.rack.now) place result }
+        ensures lowest { LowestAt (P.PriceRule.tariff self.now.rule.now) (R.Rack.held self.now.rack.now) place result }
+    {
+        let z = self.rack.read(place).ok()?;
+        self.turn_about(z)
     }
-    count
+
+    // The same about a shot.
+    fn turn_about(&self, z: Shot) -> Option<Line>
+        ensures { TurnedAbout (P.PriceRule.tariff self.now.rule.now) (R.Rack.held self.now.rack.now) z result }
+    {
+        let mut pulls = [blank(); MOST_SHOTS];
+        let count = self.fill(z, &mut pulls);
+        let balance = balance_point(&pulls[..count])?;
+        // a key between two shots fits a line
+        Line::about(z, balance.lowest)
+    }
+
+    // Writes the pulls of all held shots of another speed, and says how many there are.
+    fn fill(&self, z: Shot, pulls: &mut [Pull<Slope>]) -> usize
+        requires { length pulls.old ≡ 512 }
+        ensures { Filled (P.PriceRule.tariff self.now.rule.now) z (R.Rack.held self.now.rack.now) pulls.new result }
+    {
+        let mut count = 0;
+        for shot in self.rack.iter() {
+            if let Some(pull) = turn_pull(z, shot, self.prices_of(shot)) {
+                pulls[count] = pull;
+                count += 1;
+            }
+        }
+        count
+    }
 }
 
 // The pull of a shot about z; none for a shot of z's own speed.

@@ -11,8 +11,6 @@ use Rattle.fit.specs.Points.{points}
 use Rattle.fit.specs.Spanning.{TwoSpeeds}
 use Rattle.fit.specs.Testing.{Tested}
 use Rattle.fit.specs.Totals.{total_of}
-use Rattle.fit.specs.declared.testing.Outcome.{Outcome}
-use Rattle.fit.specs.declared.testing.Outcome.TheVariants.{Passes, FailsAt}
 use Rattle.law.specs.declared.stage.Stage.{Stage}
 use Rattle.law.specs.declared.stage.Stage.TheVariants.{Bare, Trying, InForce}
 use Rattle.law.specs.declared.kinds.Call.{Call}
@@ -53,9 +51,9 @@ record Settles (tariff : ℤ → ℕ × ℕ) (xs : List Shot) (s t : Stage) : Ty
   pub last : (o : Option Line) → Last s o → Last t o
 
 module _ (tariff : ℤ → ℕ × ℕ) (xs : List Shot) where
-  tested : (l : Line) (o : Outcome) → TwoSpeeds l xs → Tested tariff l xs o → Settles tariff xs (InForce l) (after_test l o)
-  tested l Passes two h = record { sound = (two, h); kept = (λ b. refl, λ nb. absurd (nb (best_of tariff xs l two h))); last = λ o e. e }
-  tested l (FailsAt k) two h = record { sound = two; kept = (λ b. absurd (not_best tariff xs l k h two b), λ nb. refl); last = λ o e. e }
+  tested : (l : Line) (o : Option ℕ) → TwoSpeeds l xs → Tested tariff l xs o → Settles tariff xs (InForce l) (after_test l o)
+  tested l None two h = record { sound = (two, h); kept = (λ b. refl, λ nb. absurd (nb (best_of tariff xs l two h))); last = λ o e. e }
+  tested l (Some k) two h = record { sound = two; kept = (λ b. absurd (not_best tariff xs l k h two b), λ nb. refl); last = λ o e. e }
 
   unseated : (l : Line) → (TwoSpeeds l xs → ⊥) → Settles tariff xs (InForce l) Bare
   unseated l off = record { sound = tt; kept = (λ b. absurd (off b.through), λ nb. refl); last = λ o e. tt }
@@ -67,9 +65,9 @@ module _ (tariff : ℤ → ℕ × ℕ) (xs : List Shot) where
   after_strike (InForce l) t (inl h) = subst (Settles tariff xs (InForce l)) (sym h.1.2) (tested l h.1.0 h.0 h.1.1)
   after_strike (InForce l) t (inr h) = subst (Settles tariff xs (InForce l)) (sym h.1) (unseated l h.0)
 
-  hand_tested : (l : Line) (o : Outcome) → hand_of (after_test l o) ≡ Some l
-  hand_tested l Passes = refl
-  hand_tested l (FailsAt k) = refl
+  hand_tested : (l : Line) (o : Option ℕ) → hand_of (after_test l o) ≡ Some l
+  hand_tested l None = refl
+  hand_tested l (Some k) = refl
 
   hand_strike : (s t : Stage) → AfterStrike tariff xs s t → HandStruck xs (hand_of s) (hand_of t)
   hand_strike Bare t e = ap hand_of e

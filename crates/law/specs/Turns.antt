@@ -7,7 +7,7 @@
 --   Turned        what a call does to the held shots and to the stage
 --   Turn          the same of two views: room and prices stay
 -- Assumes nothing.
-use Rattle.std.specs.Prelude.{◌≡◌, ℕ, ◌⊎◌, List, [], ◌∷◌, ◌++◌, ℤ, pos, Some, unsigned_abs}
+use Rattle.std.specs.Prelude.{◌≡◌, ℕ, ◌⊎◌, List, [], ◌∷◌, ◌++◌, ℤ, pos, Some, unsigned_abs, None, Option}
 use Rattle.std.specs.List.{remove}
 use Rattle.shots.specs.Shots.{Reads}
 use Rattle.shots.specs.declared.shot.Shot.{Shot}
@@ -18,8 +18,6 @@ use Rattle.fit.specs.Spanning.{TwoSpeeds}
 use Rattle.fit.specs.Testing.{First, Tested}
 use Rattle.fit.specs.Totals.{total_of}
 use Rattle.fit.specs.Turning.{TurnedAt}
-use Rattle.fit.specs.declared.testing.Outcome.{Outcome}
-use Rattle.fit.specs.declared.testing.Outcome.TheVariants.{Passes, FailsAt}
 use Rattle.law.specs.declared.stage.Stage.{Stage}
 use Rattle.law.specs.declared.stage.Stage.TheVariants.{Bare, Trying, InForce}
 use Rattle.law.specs.declared.kinds.Call.{Call}
@@ -31,19 +29,19 @@ use Rattle.law.specs.declared.kinds.Reply.TheVariants.{Done, Told, Mounted, Slip
 use Rattle.law.specs.Replies.{IfDone, AddReplies, StrikeReplies, MountReplies, SlipReplies, IssueReplies}
 use Rattle.law.specs.Views.{View, in_force}
 
-abbrev pub after_test : Line → Outcome → Stage
-after_test l Passes = InForce l
-after_test l (FailsAt k) = Trying l
+abbrev pub after_test : Line → Option ℕ → Stage
+after_test l None = InForce l
+after_test l (Some k) = Trying l
 
 abbrev pub AfterAdd : (ℤ → ℕ × ℕ) → List Shot → Stage → Stage → Type 0
 AfterAdd tariff xs Bare t = t ≡ Bare
 AfterAdd tariff xs (Trying l) t = t ≡ Trying l
-AfterAdd tariff xs (InForce l) t = (o : Outcome) × Tested tariff l xs o × (t ≡ after_test l o)
+AfterAdd tariff xs (InForce l) t = (o : Option ℕ) × Tested tariff l xs o × (t ≡ after_test l o)
 
 abbrev pub AfterStrike : (ℤ → ℕ × ℕ) → List Shot → Stage → Stage → Type 0
 AfterStrike tariff xs Bare t = t ≡ Bare
 AfterStrike tariff xs (Trying l) t = (TwoSpeeds l xs × (t ≡ Trying l)) ⊎ ((TwoSpeeds l xs → ⊥) × (t ≡ Bare))
-AfterStrike tariff xs (InForce l) t = (TwoSpeeds l xs × ((o : Outcome) × Tested tariff l xs o × (t ≡ after_test l o))) ⊎ ((TwoSpeeds l xs → ⊥) × (t ≡ Bare))
+AfterStrike tariff xs (InForce l) t = (TwoSpeeds l xs × ((o : Option ℕ) × Tested tariff l xs o × (t ≡ after_test l o))) ⊎ ((TwoSpeeds l xs → ⊥) × (t ≡ Bare))
 
 abbrev pub ByWord : (ℤ → ℕ × ℕ) → List Shot → Stage → Word → Line → Stage → Type 0
 ByWord tariff xs Bare Laid m t = LaidFirst xs m × (t ≡ Trying m)
@@ -52,7 +50,7 @@ ByWord tariff xs Bare Proved m t = ⊥
 ByWord tariff xs Bare Stands m t = ⊥
 ByWord tariff xs (Trying l) Laid m t = ⊥
 ByWord tariff xs (Trying l) Moved m t = (k : ℕ) × First tariff l xs k × TurnedAt tariff xs (pos k) (Some m) × (t ≡ Trying m)
-ByWord tariff xs (Trying l) Proved m t = Tested tariff l xs Passes × (m ≡ l) × (t ≡ InForce m)
+ByWord tariff xs (Trying l) Proved m t = Tested tariff l xs None × (m ≡ l) × (t ≡ InForce m)
 ByWord tariff xs (Trying l) Stands m t = ⊥
 ByWord tariff xs (InForce l) Laid m t = ⊥
 ByWord tariff xs (InForce l) Moved m t = ⊥

@@ -9,7 +9,6 @@ use Rattle.racks.specs.Racks.{Holds}
 use Rattle.fit.specs.Offsets.{OffsetOf}
 use Rattle.fit.specs.First.{OneSpeed}
 use Rattle.fit.specs.Testing.{First, Tested}
-use Rattle.fit.specs.declared.testing.Outcome.{Outcome}
 use Rattle.fit.specs.Totals.{total_of}
 use Rattle.fit.specs.Turning.{Descends}
 use Rattle.law.specs.declared.stage.Stage.{Stage}
@@ -63,7 +62,7 @@ tells v t s p w m es ew em et by = called (record {
 })
 
 -- what was found of a line that is tried is what the test says of it
-pub found : (tariff : ℤ → ℕ × ℕ) (xs : List Shot) (s : Stage) (o : Outcome) (l : Line) (p : Outcome) → Judged tariff xs s o → s ≡ Trying l → o ≡ p → Tested tariff l xs p
+pub found : (tariff : ℤ → ℕ × ℕ) (xs : List Shot) (s : Stage) (o : Option ℕ) (l : Line) (p : Option ℕ) → Judged tariff xs s o → s ≡ Trying l → o ≡ p → Tested tariff l xs p
 found tariff xs s o l p h es eo = subst (Tested tariff l xs) eo (subst (λ t. Judged tariff xs t o) es h)
 
 -- a bare sheet whose shots have one speed refuses a pivot

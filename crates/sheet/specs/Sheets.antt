@@ -12,7 +12,6 @@ use Rattle.shots.specs.declared.shot.Shot.{Shot}
 use Rattle.shots.specs.declared.refusal.Refusal.{Refusal}
 use Rattle.lines.specs.declared.line.Line.{Line}
 use Rattle.fit.specs.Testing.{Tested}
-use Rattle.fit.specs.declared.testing.Outcome.{Outcome}
 use Rattle.slips.specs.Rows.{rows_of}
 use Rattle.slips.specs.declared.row.Row.{Row}
 use Rattle.law.specs.declared.stage.Stage.{Stage}
@@ -55,7 +54,7 @@ abbrev pub reply_of : Result Reply Refusal → Reply
 reply_of (Ok r) = r
 reply_of (Err e) = Refused e
 
-abbrev pub Judged : (ℤ → ℕ × ℕ) → List Shot → Stage → Outcome → Type 0
+abbrev pub Judged : (ℤ → ℕ × ℕ) → List Shot → Stage → Option ℕ → Type 0
 Judged tariff xs Bare o = Unit {0}
 Judged tariff xs (Trying l) o = Tested tariff l xs o
 Judged tariff xs (InForce l) o = Unit {0}

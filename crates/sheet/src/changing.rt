@@ -1,11 +1,10 @@
 //! The stage after an accepted change: whether the line keeps its standing over the shots held now.
-ghost use Rattle.std.specs.Prelude.{◌≡◌};
+ghost use Rattle.std.specs.Prelude.{◌≡◌, ℕ, Option as Maybe};
 ghost use Rattle.fit.specs.Testing.{Tested};
-ghost use Rattle.fit.specs.declared.testing.Outcome.{Outcome as Verdict};
 ghost use Rattle.law.specs.Turns.{after_test, AfterAdd, AfterStrike};
 
 use crate::sheet::Sheet;
-use fit::{Outcome, has_two_speeds, test_line};
+use fit::has_two_speeds;
 use law::Stage;
 use lines::Line;
 use racks::Rack;
@@ -36,11 +35,11 @@ impl<R: Rack, P: PriceRule> Sheet<R, P> {
 
     // The stage of a line that was in force, by what the test says of it now.
     fn tested(&self, line: Line) -> Stage
-        ensures { (o : Verdict) × Tested (P.PriceRule.tariff self.now.rule) line (R.Rack.held self.now.rack) o × (result ≡ after_test line o) }
+        ensures { (o : Maybe ℕ) × Tested (P.PriceRule.tariff self.now.rule) line (R.Rack.held self.now.rack) o × (result ≡ after_test line o) }
     {
-        match test_line(&self.rack, &self.rule, line) {
-            Outcome::Passes => Stage::InForce(line),
-            Outcome::FailsAt(_) => Stage::Trying(line),
+        match self.fit().failing_place(line) {
+            None => Stage::InForce(line),
+            Some(_) => Stage::Trying(line),
         }
     }
 }

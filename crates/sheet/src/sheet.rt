@@ -13,7 +13,7 @@ ghost use Rattle.fit.specs.Offsets.{OffsetBest};
 
 use crate::inner::Inner;
 use crate::pass::Pass;
-use fit::{Outcome, first_line, offset};
+use fit::first_line;
 use law::{Pivoted, Stage, Word};
 use lines::Line;
 use racks::Rack;
@@ -90,18 +90,18 @@ impl<R: Rack, P: PriceRule> Sheet<R, P> {
         ensures rack { self.new.rack ≡ self.old.rack }
         ensures rule { self.new.rule ≡ self.old.rule }
     {
-        match (self.inner.stage, self.outcome()) {
+        match (self.inner.stage, self.failing_place()) {
             (Stage::Bare, _) => {
                 let line = first_line(&self.rack).ok_or(Refusal::OneSpeed)?;
                 self.inner.stage = Stage::Trying(line);
                 Ok(self.told(Word::Laid, line))
             }
-            (Stage::Trying(line), Outcome::FailsAt(place)) => {
+            (Stage::Trying(line), Some(place)) => {
                 let turned = self.turned_at(line, place);
                 self.inner.stage = Stage::Trying(turned);
                 Ok(self.told(Word::Moved, turned))
             }
-            (Stage::Trying(line), Outcome::Passes) => {
+            (Stage::Trying(line), None) => {
                 self.inner.stage = Stage::InForce(line);
                 Ok(self.told(Word::Proved, line))
             }
@@ -116,7 +116,7 @@ impl<R: Rack, P: PriceRule> Sheet<R, P> {
         ensures called { Called (Mount a b) (mount_reply result) (sees R.Rack.held R.Rack.capacity P.PriceRule.tariff self.now) (sees R.Rack.held R.Rack.capacity P.PriceRule.tariff self.now) }
         ensures cheapest { OffsetBest (P.PriceRule.tariff self.now.rule) a b (R.Rack.held self.now.rack) result }
     {
-        offset(&self.rack, &self.rule, a, b)
+        self.fit().offset(a, b)
     }
 
     /// Writes one row for each held shot on the line in force, in order of place, from the front of the
@@ -128,7 +128,7 @@ impl<R: Rack, P: PriceRule> Sheet<R, P> {
         ensures life { (past : List Then) → Life past (sees R.Rack.held R.Rack.capacity P.PriceRule.tariff self.now) → SlipWrites (P.PriceRule.tariff self.now.rule) (held_by past) (in_force_by past) table.old result table.new }
     {
         let line = self.in_force().ok_or(Refusal::Idle)?;
-        write_rows(&self.rack, &self.rule, line, table).ok_or(Refusal::SlipShort)
+        write_rows(&self.fit(), line, table).ok_or(Refusal::SlipShort)
     }
 
     /// A pass with the line in force; refused by `Idle` where none is.

@@ -6,21 +6,32 @@ ghost use Rattle.fit.specs.Turning.{TurnedAt};
 ghost use Rattle.sheet.specs.Sheets.{Judged};
 
 use crate::sheet::Sheet;
-use fit::{Outcome, test_line, total, turned_line};
+use fit::Fit;
 use law::{Pivoted, Stage, Word};
 use lines::{Line, PricedLine};
 use racks::Rack;
 use shots::PriceRule;
 
 impl<R: Rack, P: PriceRule> Sheet<R, P> {
-    // What the test says of a line that is tried. A bare sheet has none to fail, and a line in force
-    // has passed over the shots held now.
-    pub(crate) fn outcome(&self) -> Outcome
+    // The shots held now, under the rule.
+    pub(crate) fn fit(&self) -> Fit<'_, R, P>
+        ensures rack { result.rack.now ≡ self.now.rack }
+        ensures rule { result.rule.now ≡ self.now.rule }
+    {
+        Fit {
+            rack: &self.rack,
+            rule: &self.rule,
+        }
+    }
+
+    // The first place at which a line that is tried fails the test. A bare sheet has no line to fail,
+    // and a line in force has passed over the shots held now.
+    pub(crate) fn failing_place(&self) -> Option<usize>
         ensures { Judged (P.PriceRule.tariff self.now.rule) (R.Rack.held self.now.rack) self.now.inner.stage result }
     {
         match self.inner.stage {
-            Stage::Trying(line) => test_line(&self.rack, &self.rule, line),
-            _ => Outcome::Passes,
+            Stage::Trying(line) => self.fit().failing_place(line),
+            _ => None,
         }
     }
 
@@ -30,7 +41,7 @@ impl<R: Rack, P: PriceRule> Sheet<R, P> {
         ensures { TurnedAt (P.PriceRule.tariff self.now.rule) (R.Rack.held self.now.rack) (pos place) (Some result) }
     {
         // a rack holds at most 512 shots, so the place fits
-        turned_line(&self.rack, &self.rule, place as i32).unwrap()
+        self.fit().turned_line(place as i32).unwrap()
     }
 
     // A pivot's answer: what it did, the line, and what that costs over the held shots.
@@ -39,7 +50,7 @@ impl<R: Rack, P: PriceRule> Sheet<R, P> {
         ensures line { result.priced.line ≡ line }
         ensures total { result.priced.total ≡ total_of (P.PriceRule.tariff self.now.rule) line (R.Rack.held self.now.rack) }
     {
-        let total = total(&self.rack, &self.rule, line);
+        let total = self.fit().total(line);
         Pivoted {
             word,
             priced: PricedLine { line, total },

@@ -7,4 +7,4 @@ pub returns : goal.returns
 returns g c =
     let f1 = c.ranges.a in
     let f2 = c.ranges.b in
-    record { called = mounts _ _ _ _ (simp to_z-of_z at c.offset.ensures.offset); cheapest = simp to_z-of_z at c.offset.ensures.cheapest }
+    record { called = mounts _ _ _ _ (rw (c.fit.ensures.rack, c.fit.ensures.rule) at (simp to_z-of_z at c.offset.ensures.offset)); cheapest = rw (c.fit.ensures.rack, c.fit.ensures.rule) at (simp to_z-of_z at c.offset.ensures.cheapest) }

@@ -23,19 +23,19 @@ returns-in_err-line-in-Bare-default-clause-called g c =
     let k : c.in_err-line-in-Bare-default.field-0.0 ≡ OneSpeed = grind arith in
     rw (p.1, p.2, k) (lacks _ c.in-Bare-default.is-0 one)
 
-pub returns-in-Trying-FailsAt-clause-called : goal.returns-in-Trying-FailsAt-clause-called
-returns-in-Trying-FailsAt-clause-called g c =
-    let h = c.told-in-Trying-FailsAt.ensures in
-    let i = c.in-Trying-FailsAt in
-    let first = found (g.P.PriceRule.tariff c.args.self.now.rule) (g.R.Rack.held c.args.self.now.rack) _ _ i.line _ c.outcome.ensures i.is-0 i.is-1 in
-    tells _ _ (Trying i.line) c.told-in-Trying-FailsAt.result Moved _ i.is-0 h.word h.line h.total (i.place, first, c.turned_at-turned.ensures, refl)
+pub returns-in-Trying-Some-clause-called : goal.returns-in-Trying-Some-clause-called
+returns-in-Trying-Some-clause-called g c =
+    let h = c.told-in-Trying-Some.ensures in
+    let i = c.in-Trying-Some in
+    let first = found (g.P.PriceRule.tariff c.args.self.now.rule) (g.R.Rack.held c.args.self.now.rack) _ _ i.line _ c.failing_place.ensures i.is-0 i.is-1 in
+    tells _ _ (Trying i.line) c.told-in-Trying-Some.result Moved _ i.is-0 h.word h.line h.total (i.place, first, c.turned_at-turned.ensures, refl)
 
-pub returns-in-Trying-Passes-clause-called : goal.returns-in-Trying-Passes-clause-called
-returns-in-Trying-Passes-clause-called g c =
-    let h = c.told-in-Trying-Passes.ensures in
-    let i = c.in-Trying-Passes in
-    let passes = found (g.P.PriceRule.tariff c.args.self.now.rule) (g.R.Rack.held c.args.self.now.rack) _ _ i.line _ c.outcome.ensures i.is-0 i.is-1 in
-    tells _ _ (Trying i.line) c.told-in-Trying-Passes.result Proved _ i.is-0 h.word h.line h.total (passes, refl, refl)
+pub returns-in-Trying-None-clause-called : goal.returns-in-Trying-None-clause-called
+returns-in-Trying-None-clause-called g c =
+    let h = c.told-in-Trying-None.ensures in
+    let i = c.in-Trying-None in
+    let passes = found (g.P.PriceRule.tariff c.args.self.now.rule) (g.R.Rack.held c.args.self.now.rack) _ _ i.line _ c.failing_place.ensures i.is-0 i.is-1 in
+    tells _ _ (Trying i.line) c.told-in-Trying-None.result Proved _ i.is-0 h.word h.line h.total (passes, refl, refl)
 
 pub returns-in-InForce-default-clause-called : goal.returns-in-InForce-default-clause-called
 returns-in-InForce-default-clause-called g c =

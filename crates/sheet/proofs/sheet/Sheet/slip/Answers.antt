@@ -9,9 +9,10 @@ returns g c =
     let found : c.in_force.result ≡ Some c.in_ok-line.line = grind arith in
     let e = sym c.in_force.ensures ∙ found in
     let v = sees g.R.Rack.held g.R.Rack.capacity g.P.PriceRule.tariff c.args.self.now in
-    let rows = writes v c.args.table.now c.write_rows.new.table c.in_ok-line.line c.write_rows.result e c.write_rows.ensures in
+    let w = rw (c.fit.ensures.rack, c.fit.ensures.rule) at c.write_rows.ensures in
+    let rows = writes v c.args.table.now c.write_rows.new.table c.in_ok-line.line c.write_rows.result e w in
     rw c.ok_or-2.ensures.value (record {
-      called = slipped v c.args.table.now c.write_rows.new.table c.in_ok-line.line c.write_rows.result e c.write_rows.ensures;
+      called = slipped v c.args.table.now c.write_rows.new.table c.in_ok-line.line c.write_rows.result e w;
       rows = rows;
       life = λ past l. in_life past v c.args.table.now _ c.write_rows.new.table rows l;
     })

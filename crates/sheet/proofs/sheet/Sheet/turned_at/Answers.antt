@@ -9,10 +9,11 @@ pub unwrap-requires : goal.unwrap-requires
 unwrap-requires g c =
     let b = g.R.Rack.bounded c.args.self.now.rack in
     let e : to_z w32 c.args.place ≡ pos c.args.place = omega (arith, ints, c.requires.inside) in
-    is_turned _ c.args.line _ c.args.place (to_z w32 c.args.place) c.turned_line.result e c.requires c.turned_line.ensures.descends
+    let d = rw (c.fit.ensures.rack, c.fit.ensures.rule) at c.turned_line.ensures.descends in
+    is_turned _ c.args.line _ c.args.place (to_z w32 c.args.place) c.turned_line.result e c.requires d
 
 pub returns : goal.returns
 returns g c =
     let b = g.R.Rack.bounded c.args.self.now.rack in
     let e : to_z w32 c.args.place ≡ pos c.args.place = omega (arith, ints, c.requires.inside) in
-    subst₂ (TurnedAt (g.P.PriceRule.tariff c.args.self.now.rule) (g.R.Rack.held c.args.self.now.rack)) e c.unwrap.ensures c.turned_line.ensures.turned
+    subst₂ (TurnedAt (g.P.PriceRule.tariff c.args.self.now.rule) (g.R.Rack.held c.args.self.now.rack)) e c.unwrap.ensures (rw (c.fit.ensures.rack, c.fit.ensures.rule) at c.turned_line.ensures.turned)

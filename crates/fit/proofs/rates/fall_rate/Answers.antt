@@ -1,9 +1,0 @@
-use Rattle.std.proofs.Common.{subst, w32}
-use Rattle.std.proofs.lemmas.Int.{to_z-of_z}
-use Rattle.fit.specs.Rates.{fall_at, Rate}
-use Rattle.fit.proofs.rates.fall_rate.Goals as goal
-
-pub returns : goal.returns
-returns g c =
-    let held = g.R.Rack.held c.args.rack.now in
-    subst (λ p. Rate (fall_at (g.P.PriceRule.tariff c.args.rule.now) c.args.line held) c.args.line held p c.rate_at.result) (to_z-of_z w32 c.args.place c.ranges.place) c.rate_at.ensures

@@ -1,7 +1,0 @@
-use Rattle.fit.specs.Totals.{paid}
-use Rattle.fit.proofs.Running.{Running}
-use Rattle.fit.proofs.totals.total.Given as goal
-
-abbrev pub invariant-loop-shot : goal.invariant-loop-shot
-invariant-loop-shot g l =
-    Running (paid (g.P.PriceRule.tariff l.rule) l.line) 383984000000 l.yielded l.sum
