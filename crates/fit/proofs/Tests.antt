@@ -1,10 +1,9 @@
 -- The test over shots is the test over their points, so it decides whether a line is cheapest.
-use Rattle.std.proofs.Common.{◌≡◌, ℕ, zero, suc, ◌<◌, true, Some, None, Option, MatchOption, HoldsAt, List, [], ◌∷◌, map, length, get_or, ℤ, pos, ◌≤ℤ◌, sym, refl, subst, inl, inr, ⊎_elim, arith}
-use lib.Signed.{lt_z}
+use Rattle.std.proofs.Common.{◌≡◌, ℕ, zero, suc, ◌<◌, Some, None, Option, MatchOption, HoldsAt, List, [], ◌∷◌, map, length, get_or, ℤ, pos, sym, refl, subst, inl, inr, ⊎_elim, arith}
 use Rattle.std.proofs.lemmas.Int.{ints, by_lt_z}
 use Rattle.std.specs.List.{AllWithin}
 use Rattle.shots.specs.declared.shot.Shot.{Shot}
-use Rattle.lines.specs.Lines.{any, On}
+use Rattle.lines.specs.Lines.{any}
 use Rattle.lines.specs.declared.line.Line.{Line}
 use Rattle.theory.specs.Points.{In, Cheapest, Spans, On as OnPoint}
 use Rattle.theory.specs.Rates.{rise_of, fall_of, Failing, Passing, Passes}
@@ -12,7 +11,6 @@ use Rattle.theory.proofs.Descent.{test_exact}
 use Rattle.fit.specs.Points.{point, points}
 use Rattle.fit.specs.Testing.{Fails, First, Tested, Best}
 use Rattle.fit.proofs.Held.{each_within, one_within}
-use Rattle.fit.proofs.Lifting.{is_lt}
 
 -- an element of a list of images, and where it comes from
 pub record Source {S T : Type 0} (f : S → T) (xs : List S) (y : T) : Type 0 where
@@ -65,10 +63,3 @@ module _ (tariff : ℤ → ℕ × ℕ) (l : Line) (xs : List Shot) where
       let x = one_within (Fails tariff l xs) xs k h.0 h.1 in
       let first : First tariff l xs k = record { inside = h.0; shot = x.0; is = x.1; fails = x.2; before = each_within (λ y. Fails tariff l xs y → ⊥) xs k h.2 } in
       (first, fails_worse k first)
-
-  -- a shot on the line whose rise rate is at least 0 fails by its fall rate, or not at all
-  pub by_fall : (z : Shot) (r f g : ℤ) → On l z → r ≡ rise_of (any l) (points tariff xs) (point tariff z) → pos 0 ≤ℤ r → f ≡ fall_of (any l) (points tariff xs) (point tariff z) → g ≡ f → (lt_z g (pos 0) ≡ true → Fails tariff l xs z) × (Fails tariff l xs z → lt_z g (pos 0) ≡ true)
-  by_fall z r f g on er hr ef eg = (
-    λ h. (on, inr (omega (arith, ints))),
-    λ h. ⊎_elim (λ b. absurd (omega (arith, ints, b))) (λ b. is_lt g (pos 0) (omega (arith, ints, b))) h.1,
-  )

@@ -4,11 +4,11 @@
 
 mod first;
 mod fit;
+mod lifts;
 mod mounting;
 mod prices;
 mod rates;
 mod spanning;
-mod terms;
 mod testing;
 mod totals;
 mod turning;

@@ -4,7 +4,7 @@ ghost use Rattle.std.specs.Prelude.{◌≡◌};
 ghost use Rattle.fit.specs.Rates.{rate_of, rise_at, fall_at, OnAt, Rate};
 
 use crate::fit::Fit;
-use crate::terms::lift_price;
+use crate::lifts::lift_price;
 use crate::ways::{Fall, Rise, Way};
 use lines::Line;
 use racks::Rack;

@@ -1,8 +1,8 @@
--- What a rack answers, seen in the mirror: flipping is its own inverse, and the answers to read, add
--- and strike flip along with the shots.
-use Rattle.std.proofs.Common.{◌≡◌, ℕ, ◌<◌, true, false, cond, ltb, List, [], ◌∷◌, map, length, ℤ, negsuc, neg_ℤ, nat_abs, Some, None, Ok, Err, Result, sym, refl, ap, ◌∙◌, arith, w32, SFits}
+-- What a rack answers, seen in the mirror: flipping is its own inverse, and the answers to add and
+-- strike flip along with the shots.
+use Rattle.std.proofs.Common.{◌≡◌, ℕ, true, false, cond, ltb, List, [], ◌∷◌, map, length, ℤ, negsuc, neg_ℤ, Some, None, Ok, Err, Result, sym, refl, ap, ◌∙◌, arith, w32, SFits}
 use lib.IntN.{neg_ℤ-neg_ℤ}
-use Rattle.std.proofs.lemmas.List.{length-map, get_or-map, map-append, map_push, take-map, drop-map}
+use Rattle.std.proofs.lemmas.List.{length-map, map-append, map_push, take-map, drop-map}
 use Rattle.std.proofs.lemmas.Int.{ints, by_lt_z, wrapping_neg_is, int_wrap_fits}
 use Rattle.std.specs.Int.{int_wrapping_neg}
 use Rattle.std.specs.Option.{option_or}
@@ -13,7 +13,7 @@ use Rattle.shots.specs.declared.entry.Entry.{Entry}
 use Rattle.shots.specs.declared.refusal.Refusal.{Refusal}
 use Rattle.shots.specs.declared.refusal.Refusal.TheVariants.{Speed, Lead, Weight, Stuff, Full}
 use Rattle.shots.proofs.Same.{same_numbers}
-use Rattle.racks.specs.Racks.{Read, add_fault, Added, Struck}
+use Rattle.racks.specs.Racks.{add_fault, Added, Struck}
 use Rattle.racks.specs.Flips.{flipped}
 
 twice : (z : Shot) → flipped (flipped z) ≡ z
@@ -22,14 +22,6 @@ twice z = same_numbers (flipped (flipped z)) z refl (neg_ℤ-neg_ℤ z.lead) ref
 pub all_twice : (xs : List Shot) → map flipped (map flipped xs) ≡ xs
 all_twice [] = refl
 all_twice (x ∷ xs) = let e = twice x in let f = all_twice xs in cc
-
-pub read_flips : (xs : List Shot) (p : ℤ) (z : Shot) → Read xs p (Ok z) → Read (map flipped xs) p (Ok (flipped z))
-read_flips xs p z h =
-    let lt : nat_abs p < length xs = omega (arith, ints) in
-    ((h.0.0, simp length-map h.0.1), sym (get_or-map flipped xs (nat_abs p) z (flipped z) lt ∙ ap flipped (sym h.1)))
-
-pub refused_flips : (xs : List Shot) (p : ℤ) (e : Refusal) → Read xs p (Err e) → Read (map flipped xs) p (Err e)
-refused_flips xs p e h = (simp length-map h.0, h.1)
 
 pub struck_flips : (xs ys : List Shot) (p : ℤ) (r : Result (Unit {0}) Refusal) → Struck xs p r ys → Struck (map flipped xs) p r (map flipped ys)
 struck_flips xs ys p (Ok u) h = ((h.0.0, simp length-map h.0.1), ap (map flipped) h.1 ∙ simp (map-append, take-map, drop-map))

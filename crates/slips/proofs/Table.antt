@@ -2,7 +2,6 @@
 -- them what it had before.
 use Rattle.std.proofs.Common.{◌≡◌, ℕ, zero, suc, ◌+◌, ◌<◌, ◌≤◌, List, [], ◌∷◌, ◌++◌, length, get_or, take, drop, set, ℤ, pos, nat_abs, Some, None, sym, refl, ap, ◌∙◌, subst, arith}
 use Rattle.std.proofs.lemmas.List.{append_assoc, append-nil, at_drop_more, at_drop_all, take_more_set, take-append-drop, drop-set-lt, drop-drop}
-use Rattle.std.proofs.lemmas.Int.{ints}
 use Rattle.shots.specs.declared.shot.Shot.{Shot}
 use Rattle.lines.specs.Lines.{miss_of}
 use Rattle.lines.specs.declared.line.Line.{Line}
@@ -21,10 +20,6 @@ module _ (tariff : ℤ → ℕ × ℕ) (l : Line) (xs : List Shot) (i : ℕ) (p 
       let by = subst (λ k. y ≡ get_or xs k y) (ap nat_abs at) b.1 in
       let one = one_at xs i y z h by az in
       (z, az, a.2, λ j. record { place = i; rise = (eu ∙ er) j; fall = (ev ∙ ef ∙ ap (fall_at tariff l xs) one) j })
-
-  pub row_none : (rate : Shot → ℤ) → Rate rate l xs p None → RowAt tariff l xs i None
-  row_none rate off z e on =
-      off z (omega (arith, ints), omega (arith, ints)) (subst (λ k. z ≡ get_or xs k z) (sym (ap nat_abs at)) e) on
 
 -- the shot at a place that holds one
 held_at : (xs : List Shot) (i : ℕ) → i < length xs → (z : Shot) × (z ≡ get_or xs i z)

@@ -3,7 +3,7 @@ use Rattle.std.proofs.Common.{◌*◌, ◌∙◌, sym, neg_ℤ, arith, w64, SFit
 use Rattle.std.proofs.lemmas.Int.{ints}
 use Rattle.lines.proofs.Sides.{late_above, early_below, on_zero}
 use Rattle.fit.proofs.Lifting.{charged, lift_late, lift_early, lift_on_up, lift_on_down}
-use Rattle.fit.proofs.terms.lift_price.Goals as goal
+use Rattle.fit.proofs.lifts.lift_price.Goals as goal
 
 pub returns-in-Late : goal.returns-in-Late
 returns-in-Late c =
