@@ -1,5 +1,5 @@
 //! The offset of a line whose slope is known: where over the held shots it is best laid.
-ghost use Rattle.std.specs.Prelude.{◌≡◌, ◌<◌, length};
+ghost use Rattle.std.specs.Prelude.{◌≡◌, ◌<◌, length, MatchResult};
 ghost use Rattle.theory.specs.Offsets.{BalancedOffset};
 ghost use Rattle.fit.specs.Points.{points};
 ghost use Rattle.fit.specs.Offsets.{IsSlope, pull_at, OffsetOf, OffsetBest};
@@ -8,6 +8,39 @@ use crate::fit::Fit;
 use balance::{Pull, whole_balance_point};
 use racks::{MOST_SHOTS, Rack, is_empty};
 use shots::{PriceRule, Refusal, Shot};
+
+// The slope B/A of a line that is to be laid; it need not be in lowest terms.
+#[derive(Clone, Copy)]
+struct Incline {
+    a: i32,
+    b: i32,
+    ghost in_range: { IsSlope a b },
+}
+
+impl Incline {
+    // The slope of these two numbers; refused by `Slope` where one is out of its range.
+    fn new(a: i32, b: i32) -> Result<Incline, Refusal>
+        ensures { MatchResult result (λ incline. IsSlope a b × (incline.a ≡ a) × (incline.b ≡ b)) (λ refusal. (IsSlope a b → ⊥) × (refusal ≡ Refusal.Slope)) }
+    {
+        if a < 1 || a > 4000 || b < -16000 || b > 16000 {
+            return Err(Refusal::Slope);
+        }
+        Ok(Incline { a, b })
+    }
+
+    // How a shot pulls on the offset: to the line through it.
+    fn pull(self, shot: Shot, prices: (u8, u8)) -> Pull<i32>
+        ensures { result ≡ pull_at self.a self.b shot prices }
+    {
+        let (late, early) = prices;
+        Pull {
+            // at most 96,000,000 whatever the sign
+            key: self.a * i32::from(shot.lead) - self.b * i32::from(shot.speed),
+            under: u32::from(shot.weight) * u32::from(late),
+            over: u32::from(shot.weight) * u32::from(early),
+        }
+    }
+}
 
 impl<R: Rack, P: PriceRule> Fit<'_, R, P> {
     /// The offset C for a known slope B/A: the balance point of the keys A·h - B·s of all held shots,
@@ -19,20 +52,17 @@ impl<R: Rack, P: PriceRule> Fit<'_, R, P> {
         ensures offset { OffsetOf (P.PriceRule.tariff self.now.rule.now) a b (R.Rack.held self.now.rack.now) result }
         ensures cheapest { OffsetBest (P.PriceRule.tariff self.now.rule.now) a b (R.Rack.held self.now.rack.now) result }
     {
-        if a < 1 || a > 4000 || b < -16000 || b > 16000 {
-            return Err(Refusal::Slope);
-        }
+        let incline = Incline::new(a, b)?;
         if is_empty(self.rack) {
             return Err(Refusal::Empty);
         }
-        Ok(self.balanced(a, b))
+        Ok(self.balanced(incline))
     }
 
-    // The offset of a slope in range, where a shot is held.
-    fn balanced(&self, a: i32, b: i32) -> i32
-        requires slope { IsSlope a b }
-        requires some { 0 < length (R.Rack.held self.now.rack.now) }
-        ensures { BalancedOffset a b (points (P.PriceRule.tariff self.now.rule.now) (R.Rack.held self.now.rack.now)) result }
+    // The offset of a slope, where a shot is held.
+    fn balanced(&self, incline: Incline) -> i32
+        requires { 0 < length (R.Rack.held self.now.rack.now) }
+        ensures { BalancedOffset incline.a incline.b (points (P.PriceRule.tariff self.now.rule.now) (R.Rack.held self.now.rack.now)) result }
     {
         let mut pulls = [Pull {
             key: 0,
@@ -40,25 +70,11 @@ impl<R: Rack, P: PriceRule> Fit<'_, R, P> {
             over: 1,
         }; MOST_SHOTS];
         for (place, shot) in self.rack.iter().enumerate() {
-            pulls[place] = offset_pull(a, b, shot, self.prices_of(shot));
+            pulls[place] = incline.pull(shot, self.prices_of(shot));
         }
         match whole_balance_point(&pulls[..self.rack.count()]) {
             Some(balance) => balance.lowest,
             None => unreachable(),
         }
-    }
-}
-
-// How a shot pulls on the offset of a slope in range: to the line through it.
-fn offset_pull(a: i32, b: i32, shot: Shot, prices: (u8, u8)) -> Pull<i32>
-    requires { IsSlope a b }
-    ensures { result ≡ pull_at a b shot prices }
-{
-    let (late, early) = prices;
-    Pull {
-        // at most 96,000,000 whatever the sign
-        key: a * i32::from(shot.lead) - b * i32::from(shot.speed),
-        under: u32::from(shot.weight) * u32::from(late),
-        over: u32::from(shot.weight) * u32::from(early),
     }
 }

@@ -6,6 +6,6 @@ use Rattle.fit.proofs.fit.Fit.balanced.Given as goal
 abbrev pub invariant-loop-place : goal.invariant-loop-place
 invariant-loop-place g l = record {
   placed : l.place ≡ length l.yielded;
-  filled : take l.place l.pulls ≡ map (offset_pull (g.P.PriceRule.tariff l.self.rule.now) l.a l.b) l.yielded;
+  filled : take l.place l.pulls ≡ map (offset_pull (g.P.PriceRule.tariff l.self.rule.now) l.incline.a l.incline.b) l.yielded;
   long : length l.pulls ≡ 512;
 }
