@@ -19,15 +19,42 @@ fn ends_of_ranges_are_taken(rt: HostRuntime) -> Result<(), Fail> {
 
 #[test]
 fn first_number_out_of_range_is_named(rt: HostRuntime) {
-    assert_eq!(rt; Shot::try_from(Entry::new(0, 9000, 0, 16)), Err(Refusal::Speed));
-    assert_eq!(rt; Shot::try_from(Entry::new(4001, 0, 1, 0)), Err(Refusal::Speed));
-    assert_eq!(rt; Shot::try_from(Entry::new(i32::MIN, 0, 1, 0)), Err(Refusal::Speed));
-    assert_eq!(rt; Shot::try_from(Entry::new(1, -8001, 101, 16)), Err(Refusal::Lead));
-    assert_eq!(rt; Shot::try_from(Entry::new(1, i32::MIN, 1, 0)), Err(Refusal::Lead));
-    assert_eq!(rt; Shot::try_from(Entry::new(1, i32::MAX, 1, 0)), Err(Refusal::Lead));
-    assert_eq!(rt; Shot::try_from(Entry::new(1, 0, 101, -1)), Err(Refusal::Weight));
-    assert_eq!(rt; Shot::try_from(Entry::new(1, 0, 1, 16)), Err(Refusal::Stuff));
-    assert_eq!(rt; Shot::try_from(Entry::new(1, 0, 1, i32::MAX)), Err(Refusal::Stuff));
+    assert_eq!(rt;
+        Shot::try_from(Entry::new(0, 9000, 0, 16)),
+        Err(Refusal::Speed)
+    );
+    assert_eq!(rt;
+        Shot::try_from(Entry::new(4001, 0, 1, 0)),
+        Err(Refusal::Speed)
+    );
+    assert_eq!(rt;
+        Shot::try_from(Entry::new(i32::MIN, 0, 1, 0)),
+        Err(Refusal::Speed)
+    );
+    assert_eq!(rt;
+        Shot::try_from(Entry::new(1, -8001, 101, 16)),
+        Err(Refusal::Lead)
+    );
+    assert_eq!(rt;
+        Shot::try_from(Entry::new(1, i32::MIN, 1, 0)),
+        Err(Refusal::Lead)
+    );
+    assert_eq!(rt;
+        Shot::try_from(Entry::new(1, i32::MAX, 1, 0)),
+        Err(Refusal::Lead)
+    );
+    assert_eq!(rt;
+        Shot::try_from(Entry::new(1, 0, 101, -1)),
+        Err(Refusal::Weight)
+    );
+    assert_eq!(rt;
+        Shot::try_from(Entry::new(1, 0, 1, 16)),
+        Err(Refusal::Stuff)
+    );
+    assert_eq!(rt;
+        Shot::try_from(Entry::new(1, 0, 1, i32::MAX)),
+        Err(Refusal::Stuff)
+    );
 }
 
 #[test]
