@@ -42,10 +42,3 @@ keyed {a} {b} z {x} {y} s e f =
 -- ---- pulls and answers as they come out of bits
 pub same_pull : {k j : ℤ} {u v s t : ℕ} → k ≡ j → u ≡ s → v ≡ t → ◌≡◌ {A = Pull ℤ} (record { key = k; under = u; over = v }) (record { key = j; under = s; over = t })
 same_pull e f g = λ i. record { key = e i; under = f i; over = g i }
-
-pub same_offset : {a b c j k m : ℤ} {xs : List Point} → j ≡ a → k ≡ b → m ≡ c → BalancedOffset j k xs m → BalancedOffset a b xs c
-same_offset {a} {b} {c} {j} {k} {m} {xs} ea eb ec w =
-    subst (λ x. BalancedOffset a b xs x) ec (subst (λ x. BalancedOffset a x xs m) eb (subst (λ x. BalancedOffset x k xs m) ea w))
-
-pub is_slope : (a b : ℤ) → SFits w32 a → SFits w32 b → lt_z (back w32 a) (pos 1) ≡ false → lt_z (pos 4000) (back w32 a) ≡ false → lt_z (back w32 b) (negsuc 15999) ≡ false → lt_z (pos 16000) (back w32 b) ≡ false → IsSlope a b
-is_slope a b fa fb h1 h2 h3 h4 = record { least = omega (arith, ints); most = omega (arith, ints); fall = omega (arith, ints); rise = omega (arith, ints) }

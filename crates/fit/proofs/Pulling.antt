@@ -137,7 +137,3 @@ module _ (tariff : ℤ → ℕ × ℕ) (z : Shot) where
   no_pulls (x ∷ xs) ps n (inr (q, qs, eq, a, r)) y i = let l = ap length eq in absurd (omega arith)
 
 -- ---- a price as it is computed
-pub price_is : (slow fast : Shot) (k n : ℕ) → slow.speed ≤ fast.speed → n ≡ k * (fast.speed - slow.speed) → pos n ≡ pos k *ℤ run_of slow fast
-price_is slow fast k n h e =
-    let d : pos (fast.speed - slow.speed) ≡ run_of slow fast = omega (arith, ints) in
-    ap pos e ∙ ap (λ x. pos k *ℤ x) d

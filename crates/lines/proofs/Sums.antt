@@ -16,11 +16,6 @@ pub sum_le : {T : Type 0} (f g : T → ℤ) (xs : List T) → ((x : T) → f x �
 sum_le f g [] h = omega lin
 sum_le f g (x ∷ xs) h = omega (lin, h x, sum_le f g xs h)
 
--- where it holds of each element of the list
-pub sum_le_all : {T : Type 0} (f g : T → ℤ) (xs : List T) → All (λ x. f x ≤ℤ g x) xs → sum_z f xs ≤ℤ sum_z g xs
-sum_le_all f g [] h = omega lin
-sum_le_all f g (x ∷ xs) h = omega (lin, sum_le_all f g xs h.1)
-
 pub sum_nn : {T : Type 0} (f : T → ℤ) (xs : List T) → ((x : T) → pos 0 ≤ℤ f x) → pos 0 ≤ℤ sum_z f xs
 sum_nn f [] h = omega lin
 sum_nn f (x ∷ xs) h = omega (lin, h x, sum_nn f xs h)

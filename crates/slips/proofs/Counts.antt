@@ -44,9 +44,6 @@ pub length_from : (tariff : ℤ → ℕ × ℕ) (l : Line) (xs : List Shot) (i :
 length_from tariff l xs i [] = refl
 length_from tariff l xs i (z ∷ ys) = let h = length_from tariff l xs (i + 1) ys in grind (arith, ints)
 
-pub length_rows : (tariff : ℤ → ℕ × ℕ) (l : Line) (xs : List Shot) → length (rows_of tariff l xs) ≡ on_line l xs
-length_rows tariff l xs = length_from tariff l xs 0 xs
-
 -- ---- the shots so far: n of the first i are on the line
 pub record Counted (l : Line) (xs : List Shot) (i n : ℕ) : Type 0 where
   pub sum : n + on_line l (drop i xs) ≡ on_line l xs
