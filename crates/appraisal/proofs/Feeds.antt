@@ -1,21 +1,12 @@
 -- Input cut at its first line feed.
-use Rattle.std.proofs.Common.{◌≡◌, ℕ, zero, suc, ◌+◌, ◌-◌, ◌<◌, ◌≤◌, ◌==◌, List, [], ◌∷◌, ◌++◌, length, get_or, take, drop, Some, None, Option, position, sym, refl, ap, ◌∙◌, ⊎_elim, add-one, arith}
-use Rattle.std.proofs.lemmas.List.{length-take, get_or-take, take_rest}
+use Rattle.std.proofs.Common.{◌≡◌, ℕ, ◌+◌, ◌-◌, ◌<◌, ◌≤◌, ◌==◌, List, ◌∷◌, ◌++◌, length, get_or, take, drop, Some, None, Option, position, sym, ◌∙◌, ⊎_elim, add-one, drop-cons, arith}
+use Rattle.std.proofs.lemmas.List.{length-take, get_or-take, take-append-drop, take_rest}
 use Rattle.std.proofs.lemmas.List.Quantifiers.{position-Some}
 use Rattle.std.proofs.lemmas.List.Sums.{fails_before_first}
 use Rattle.std.proofs.lemmas.Bool.{cases_lt, cond_below, eqb-true, eq-eqb, false≢true}
 use Rattle.std.proofs.lemmas.Option.{none-some}
 use Rattle.std.specs.List.{position_or_len}
 use Rattle.appraisal.specs.Text.{NoFeed}
-
-pub empty : (xs : List ℕ) → length xs ≡ 0 → xs ≡ []
-empty [] e = refl
-empty (x ∷ xs) e = absurd (omega arith)
-
-cut_at : (xs : List ℕ) (n b : ℕ) → n < length xs → get_or xs n 0 ≡ b → xs ≡ take n xs ++ b ∷ drop (suc n) xs
-cut_at [] n b h e = absurd (omega arith)
-cut_at (x ∷ xs) zero b h e = ap (λ y. y ∷ xs) e
-cut_at (x ∷ xs) (suc n) b h e = ap (λ ys. x ∷ ys) (cut_at xs n b (omega arith) e)
 
 abbrev first : List ℕ → Option ℕ
 first xs = position (λ b. b == 10) xs
@@ -24,7 +15,7 @@ first xs = position (λ b. b == 10) xs
 pub cut_feed : (xs : List ℕ) (n : ℕ) → first xs ≡ Some n → xs ≡ take n xs ++ 10 ∷ take (length xs - (n + 1)) (drop (n + 1) xs)
 cut_feed xs n e =
     let p = position-Some (λ b. b == 10) xs n 0 e in
-    cut_at xs n 10 p.0 (eqb-true (get_or xs n 0) 10 p.1) ∙ rw (take_rest xs (n + 1), add-one)
+    sym (take-append-drop n xs) ∙ rw (drop-cons xs n 0 p.0, eqb-true (get_or xs n 0) 10 p.1, take_rest xs (n + 1), add-one)
 
 pub no_feed : (xs : List ℕ) (n : ℕ) → first xs ≡ Some n → NoFeed (take n xs)
 no_feed xs n e k l f =

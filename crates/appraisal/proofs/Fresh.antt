@@ -3,6 +3,7 @@
 use Rattle.std.proofs.Common.{◌≡◌, ℕ, zero, suc, ◌+◌, ◌<◌, ◌≤◌, List, [], ◌∷◌, ◌++◌, map, reverse, length, get_or, take, replicate, ℤ, pos, Some, None, Option, sym, refl, ap, ◌∙◌, subst, append_assoc, append-nil, arith}
 use mathlib.Core.List.{reverse-append, reverse-cons}
 use Rattle.std.proofs.lemmas.List.{length-append, length-map, length-replicate, length-reverse, take_more}
+use Rattle.std.proofs.lemmas.Option.{none-some}
 use Rattle.shots.specs.declared.shot.Shot.{Shot}
 use Rattle.shots.proofs.Images.{no_fault}
 use Rattle.lines.specs.declared.line.Line.{Line}
@@ -18,14 +19,7 @@ use Rattle.law.specs.Lives.{changed, held_by, in_force_by, Best, CallSays, Promi
 use Rattle.law.specs.Replies.{AddReplies}
 use Rattle.law.proofs.Ends.{pivots_end}
 use Rattle.law.proofs.Facts.{reads_is}
-use Rattle.appraisal.specs.Planning.{add_of, plan_of}
-
--- ---- what a list begins with
-no_cons : {X A : Type 0} {x : X} {xs : List X} → ◌≡◌ {A = List X} (x ∷ xs) [] → A
-no_cons {X} {A} {x} {xs} e = let z : suc (length xs) ≡ 0 = ap length e in let b : ⊥ = omega arith in absurd b
-
-no_some : {X A : Type 0} {x : X} → ◌≡◌ {A = Option X} None (Some x) → A
-no_some {X} {A} {x} e = let z : ◌≡◌ {A = ℕ} 0 1 = cc in let b : ⊥ = omega arith in absurd b
+use Rattle.appraisal.specs.Planning.{entry_of, add_of, plan_of}
 
 -- ---- a row of moments
 abbrev call_of : Moment → Call
@@ -41,7 +35,7 @@ last_in_force row k d h = ap (λ (l : List Moment). in_force_by (reverse l)) (ta
 -- ---- pivots
 pivoting : (n : ℕ) (row done : List Moment) → map call_of row ≡ replicate n Pivot → Pivoting done → Pivoting (reverse row ++ done)
 pivoting n [] done e p = p
-pivoting zero (m ∷ row) done e p = no_cons e
+pivoting zero (m ∷ row) done e p = absurd cc
 pivoting (suc n) (m ∷ row) done e p =
     let head : m.call ≡ Pivot = cc e in
     let tail : map call_of row ≡ replicate n Pivot = cc e in
@@ -72,7 +66,7 @@ record Split (xs : List Shot) (cs : List Call) (row : List Moment) : Type 0 wher
 
 split : (xs : List Shot) (cs : List Call) (row : List Moment) → map call_of row ≡ map add_of xs ++ cs → Split xs cs row
 split [] cs row e = record { adds = []; rest = row; parts = refl; added = refl; others = e }
-split (x ∷ xs) cs [] e = no_cons (sym e)
+split (x ∷ xs) cs [] e = absurd cc
 split (x ∷ xs) cs (m ∷ row) e =
     let head : m.call ≡ add_of x = cc e in
     let tail : map call_of row ≡ map add_of xs ++ cs = cc e in
@@ -85,16 +79,16 @@ split (x ∷ xs) cs (m ∷ row) e =
       others = s.others;
     }
 
-accepted : (cap : ℕ) (xs : List Shot) (z : Shot) → length xs < cap → add_fault cap xs (pos z.speed) z.lead (pos z.weight) (pos z.stuff) ≡ None
+accepted : (cap : ℕ) (xs : List Shot) (z : Shot) → length xs < cap → add_fault cap xs (entry_of z) ≡ None
 accepted cap xs z h = let f = no_fault z in grind arith
 
-taken : (cap : ℕ) (xs : List Shot) (z : Shot) (r : Reply) → AddReplies cap xs (pos z.speed) z.lead (pos z.weight) (pos z.stuff) r → length xs < cap → changed (add_of z) r xs ≡ xs ++ z ∷ []
-taken cap xs z Done a h = ap (λ (y : Shot). xs ++ y ∷ []) (sym (reads_is z _ _ _ _ (record { speed = refl; lead = refl; weight = refl; stuff = refl })))
+taken : (cap : ℕ) (xs : List Shot) (z : Shot) (r : Reply) → AddReplies cap xs (entry_of z) r → length xs < cap → changed (add_of z) r xs ≡ xs ++ z ∷ []
+taken cap xs z Done a h = ap (λ (y : Shot). xs ++ y ∷ []) (sym (reads_is z (entry_of z) (record { speed = refl; lead = refl; weight = refl; stuff = refl })))
 taken cap xs z (Told w p) a h = absurd a
 taken cap xs z (Mounted c) a h = absurd a
 taken cap xs z (Slipped k) a h = absurd a
 taken cap xs z (Issued l) a h = absurd a
-taken cap xs z (Refused e) a h = no_some (sym (accepted cap xs z h) ∙ a)
+taken cap xs z (Refused e) a h = absurd (none-some e (sym (accepted cap xs z h) ∙ a))
 
 module _ (tariff : ℤ → ℕ × ℕ) (cap : ℕ) where
   older : (new old : List Moment) → Promises tariff cap (new ++ old) → Promises tariff cap old
@@ -109,8 +103,8 @@ module _ (tariff : ℤ → ℕ × ℕ) (cap : ℕ) where
 
   held_added : (done todo : List Shot) (past adds : List Moment) → map call_of adds ≡ map add_of todo → Promises tariff cap (reverse adds ++ past) → held_by past ≡ done → length done + length todo ≤ cap → held_by (reverse adds ++ past) ≡ done ++ todo
   held_added done [] past [] e h d r = d ∙ sym (append-nil done)
-  held_added done [] past (m ∷ adds) e h d r = no_cons e
-  held_added done (z ∷ todo) past [] e h d r = no_cons (sym e)
+  held_added done [] past (m ∷ adds) e h d r = absurd cc
+  held_added done (z ∷ todo) past [] e h d r = absurd cc
   held_added done (z ∷ todo) past (m ∷ adds) e h d r =
       let turned = turn m adds past in
       let kept = subst (Promises tariff cap) turned h in
@@ -123,7 +117,7 @@ module _ (tariff : ℤ → ℕ × ℕ) (cap : ℕ) where
       ap held_by turned ∙ held_added (done ++ z ∷ []) todo (m ∷ past) adds tail kept held (omega arith) ∙ append_assoc done (z ∷ []) todo
 
   best_in_force : (past : List Moment) → Promises tariff cap past → (l : Line) → in_force_by past ≡ Some l → Best tariff (held_by past) l
-  best_in_force [] h l e = no_some e
+  best_in_force [] h l e = absurd cc
   best_in_force (m ∷ past) h l e = h.0.cheapest l e
 
   pub record Ended (xs : List Shot) (past : List Moment) : Type 0 where
@@ -147,5 +141,5 @@ module _ (tariff : ℤ → ℕ × ℕ) (cap : ℕ) where
       record {
         held = all;
         best = λ l e. subst (λ (ys : List Shot). Best tariff ys l) all (best_in_force (reverse row) kept l e);
-        none = λ e. one_speed_lem xs (λ two. no_some (sym e ∙ ap in_force_by turned ∙ (in-force two).1));
+        none = λ e. one_speed_lem xs (λ two. none-some (in-force two).0 (sym e ∙ ap in_force_by turned ∙ (in-force two).1));
       }

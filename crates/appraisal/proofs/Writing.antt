@@ -5,7 +5,7 @@ use Rattle.fields.specs.Numbers.{signed_of}
 use Rattle.fields.specs.Fields.{parts}
 use Rattle.lines.specs.Lines.{IsLine, Made}
 use Rattle.lines.specs.declared.line.Line.{Line}
-use Rattle.appraisal.specs.Readings.{Writes, CardText, CardRead, ShotText}
+use Rattle.appraisal.specs.Readings.{Writes, CardText, CardRead}
 
 pub writes_same : (most : ℕ) (text : List ℕ) (k : ℕ) (x y : ℤ) → Writes most text k x → Writes most text k y → x ≡ y
 writes_same most text k x y p q =
@@ -41,13 +41,3 @@ card_read text a b c (Some l) n p q r m = record {
   c_text = subst (Writes 8 text 2) (sym m.1.c) r;
 }
 card_read text a b c None n p q r m = no_card text a b c p q r m
-
--- four numbers as they reach a call
-pub shot_back : (text : List ℕ) (s h w m : ℤ) → SFits w32 s → SFits w32 h → SFits w32 w → SFits w32 m → ShotText text s h w m → ShotText text (to_z w32 (of_z w32 s)) (to_z w32 (of_z w32 h)) (to_z w32 (of_z w32 w)) (to_z w32 (of_z w32 m))
-shot_back text s h w m fs fh fw fm t = record {
-  four = t.four;
-  speed = writes_back 6 text 0 s fs t.speed;
-  lead = writes_back 6 text 1 h fh t.lead;
-  weight = writes_back 6 text 2 w fw t.weight;
-  stuff = writes_back 6 text 3 m fm t.stuff;
-}

@@ -1,14 +1,15 @@
 -- What the program answers to a shot's text line, and at the end.
 --   Stands     the answer tells the place, side and miss of the shot held at that place
---   Entered    the text writes four numbers that the rack takes: their shot is the last of those held now
---   Declined   why a text line is refused: it is no four numbers, or the rack refuses the four
+--   Entered    the text writes an entry that the rack takes: its shot is the last of those held now
+--   Declined   why a text line is refused: it writes no entry, or the rack refuses the entry
 --   Judges     the answer to a shot's text line, with the shots held before and after it
 --   Closes     the answer to all: T at even prices, A, and T/A cut to thousandths
 -- Assumes nothing.
-use Rattle.std.specs.Prelude.{◌≡◌, ℕ, ◌+◌, ◌⊎◌, List, [], ◌∷◌, ◌++◌, length, ℤ, pos, ◌*ℤ◌, ◌≤ℤ◌, ◌<ℤ◌, Some, None, slice_index_or}
+use Rattle.std.specs.Prelude.{◌≡◌, ℕ, ◌+◌, ◌⊎◌, List, [], ◌∷◌, ◌++◌, length, pos, ◌*ℤ◌, ◌≤ℤ◌, ◌<ℤ◌, Some, None, slice_index_or}
 use Rattle.shots.specs.Shots.{Reads}
 use Rattle.shots.specs.Prices.{even}
 use Rattle.shots.specs.declared.shot.Shot.{Shot}
+use Rattle.shots.specs.declared.entry.Entry.{Entry}
 use Rattle.shots.specs.declared.refusal.Refusal.{Refusal}
 use Rattle.shots.specs.declared.refusal.Refusal.TheVariants.{Unreadable}
 use Rattle.lines.specs.Lines.{miss_of}
@@ -30,26 +31,20 @@ Stands xs l k (NotCheapest at by) = ⊥
 Stands xs l k Untested = ⊥
 
 pub record Entered (cap : ℕ) (xs : List Shot) (text : List ℕ) (ys : List Shot) : Type 0 where
-  pub s : ℤ
-  pub h : ℤ
-  pub w : ℤ
-  pub m : ℤ
-  pub written : ShotText text s h w m
-  pub taken : add_fault cap xs s h w m ≡ None
+  pub entry : Entry
+  pub written : ShotText text entry
+  pub taken : add_fault cap xs entry ≡ None
   pub shot : Shot
-  pub reads : Reads shot s h w m
+  pub reads : Reads shot entry
   pub added : ys ≡ xs ++ shot ∷ []
 
 pub record Refusing (cap : ℕ) (xs : List Shot) (text : List ℕ) (e : Refusal) : Type 0 where
-  pub s : ℤ
-  pub h : ℤ
-  pub w : ℤ
-  pub m : ℤ
-  pub written : ShotText text s h w m
-  pub fault : add_fault cap xs s h w m ≡ Some e
+  pub entry : Entry
+  pub written : ShotText text entry
+  pub fault : add_fault cap xs entry ≡ Some e
 
 abbrev pub Declined : ℕ → List Shot → List ℕ → Refusal → Type 0
-Declined cap xs text e = Refusing cap xs text e ⊎ ((e ≡ Unreadable) × ((s h w m : ℤ) → ShotText text s h w m → ⊥))
+Declined cap xs text e = Refusing cap xs text e ⊎ ((e ≡ Unreadable) × ((entry : Entry) → ShotText text entry → ⊥))
 
 abbrev pub Judges : ℕ → List Shot → Line → List ℕ → ℕ → Answer → List Shot → Type 0
 Judges cap xs l text number (Refused e n) ys = (n ≡ number) × (ys ≡ xs) × Declined cap xs text e

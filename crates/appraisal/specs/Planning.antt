@@ -1,16 +1,21 @@
 -- The calls of a fresh life of the shots xs.
---   add_of    the add of a shot
+--   entry_of  the entry of a shot
+--   add_of    its add
 --   plan_of   an add of each shot in order of place, then one pivot more than there are shots
 --   Planned   the answer, and the calls after it: the plan, then the calls as they were beyond it; or none, and the calls
 --             as they were, where they are too few
 -- Assumes nothing.
 use Rattle.std.specs.Prelude.{◌≡◌, ℕ, suc, ◌<◌, ◌≤◌, List, ◌++◌, map, length, drop, replicate, pos, Some, None, Option}
 use Rattle.shots.specs.declared.shot.Shot.{Shot}
+use Rattle.shots.specs.declared.entry.Entry.{Entry}
 use Rattle.law.specs.declared.kinds.Call.{Call}
 use Rattle.law.specs.declared.kinds.Call.TheVariants.{Add, Pivot}
 
+abbrev pub entry_of : Shot → Entry
+entry_of z = record { speed = pos z.speed; lead = z.lead; weight = pos z.weight; stuff = pos z.stuff }
+
 abbrev pub add_of : Shot → Call
-add_of z = Add (pos z.speed) z.lead (pos z.weight) (pos z.stuff)
+add_of z = Add (entry_of z)
 
 abbrev pub plan_of : List Shot → List Call
 plan_of xs = map add_of xs ++ replicate (suc (length xs)) Pivot

@@ -1,8 +1,8 @@
 //! What the program answers, and how it is written.
 ghost use Rattle.std.specs.Prelude.{Some};
-ghost use Rattle.appraisal.specs.Answers.{text_of, side_text, failing_text, cheaper_text};
+ghost use Rattle.appraisal.specs.Answers.{text_of, failing_text};
 
-use lines::Side;
+use lines::{PricedLine, Side};
 use shots::Refusal;
 use std::fmt;
 
@@ -32,26 +32,10 @@ pub enum Answer {
     /// with its total.
     NotCheapest {
         at: FailingPlace,
-        by: CheaperLine,
+        by: PricedLine,
     },
     /// Fewer than two shots of different speeds are on the line, so the test does not apply.
     Untested,
-}
-
-// A side, as it is written in an answer.
-#[derive(Clone, Copy)]
-struct SideWord(Side);
-
-impl fmt::Display for SideWord {
-    ghost output = { λ s. Some (side_text s.0) };
-
-    fn fmt<W: fmt::Write>(&self, f: &mut fmt::Formatter<W>) -> fmt::Result {
-        f.write_str(match self.0 {
-            Side::Late => "late",
-            Side::Early => "early",
-            Side::On => "on",
-        })
-    }
 }
 
 /// The first place that shows that a line is cheaper, and its two rates.
@@ -71,24 +55,6 @@ impl fmt::Display for FailingPlace {
     }
 }
 
-/// A cheaper line and its total.
-#[derive(Clone, Copy, PartialEq, Eq, Debug)]
-pub struct CheaperLine {
-    pub a: i32,
-    pub b: i32,
-    pub c: i32,
-    pub total: i64,
-}
-
-impl fmt::Display for CheaperLine {
-    ghost output = { λ s. Some (cheaper_text s) };
-
-    fn fmt<W: fmt::Write>(&self, f: &mut fmt::Formatter<W>) -> fmt::Result {
-        let CheaperLine { a, b, c, total } = *self;
-        write!(f, "{a}\t{b}\t{c}\t{total}")
-    }
-}
-
 impl fmt::Display for Answer {
     ghost output = { λ answer. Some (text_of answer) };
 
@@ -98,10 +64,7 @@ impl fmt::Display for Answer {
                 let number = u8::from(refusal);
                 write!(f, "no\t{number}\t{line}")
             }
-            Answer::Judged { place, side, miss } => {
-                let side = SideWord(side);
-                write!(f, "shot\t{place}\t{side}\t{miss}")
-            }
+            Answer::Judged { place, side, miss } => write!(f, "shot\t{place}\t{side}\t{miss}"),
             Answer::Total {
                 total,
                 a,

@@ -3,9 +3,9 @@ ghost use Rattle.shots.specs.Prices.{even};
 ghost use Rattle.fit.specs.Testing.{First};
 ghost use Rattle.appraisal.specs.Deciding.{Verdict, Cheaper};
 
-use crate::answer::{Answer, CheaperLine, FailingPlace};
+use crate::answer::{Answer, FailingPlace};
 use fit::{Outcome, fall_rate, has_two_speeds, rise_rate, test_line, total, turned_line};
-use lines::Line;
+use lines::{Line, PricedLine};
 use racks::Rack;
 use shots::EvenPrices;
 
@@ -29,21 +29,13 @@ fn cheaper<R: Rack>(rack: &R, line: Line, place: usize) -> Answer
 {
     // a rack holds at most 512 shots, so the place fits
     let at = place as i32;
-    let Some(rise) = rise_rate(rack, &EvenPrices, line, at) else {
-        unreachable()
-    };
-    let Some(fall) = fall_rate(rack, &EvenPrices, line, at) else {
-        unreachable()
-    };
-    let Some(turned) = turned_line(rack, &EvenPrices, at) else {
-        unreachable()
-    };
+    let rise = rise_rate(rack, &EvenPrices, line, at).unwrap();
+    let fall = fall_rate(rack, &EvenPrices, line, at).unwrap();
+    let turned = turned_line(rack, &EvenPrices, at).unwrap();
     Answer::NotCheapest {
         at: FailingPlace { place, rise, fall },
-        by: CheaperLine {
-            a: turned.a,
-            b: turned.b,
-            c: turned.c,
+        by: PricedLine {
+            line: turned,
             total: total(rack, &EvenPrices, turned),
         },
     }

@@ -3,32 +3,27 @@ ghost use Rattle.std.specs.Prelude.{◌≡◌, ℕ, length, Decides, Some, Optio
 ghost use Rattle.appraisal.specs.Finding.{best_text, Tells, Finds, Settles};
 ghost use Rattle.appraisal.specs.Planning.{Planned};
 
-use crate::answer::CheaperLine;
 use crate::planning::plan;
 use fit::total;
 use law::{Call, Moment, Reply, Word};
-use lines::Line;
+use lines::{Line, PricedLine};
 use racks::Rack;
 use sheet::live;
 use shots::EvenPrices;
 use std::fmt;
 
-/// The cheapest line there is.
+/// The cheapest line there is, with its total; none where fewer than two speeds are held, so that
+/// there is no line to find.
 #[derive(Clone, Copy, PartialEq, Eq, Debug)]
-pub enum BestLine {
-    /// The line, with its total.
-    Best(CheaperLine),
-    /// Fewer than two speeds are held, so there is no line to find.
-    NoLine,
-}
+pub struct BestLine(pub Option<PricedLine>);
 
 impl fmt::Display for BestLine {
-    ghost output = { λ best. Some (best_text best) };
+    ghost output = { λ best. Some (best_text best.0) };
 
     fn fmt<W: fmt::Write>(&self, f: &mut fmt::Formatter<W>) -> fmt::Result {
-        match *self {
-            BestLine::Best(line) => write!(f, "best\t{line}"),
-            BestLine::NoLine => f.write_str("no line\tfewer than two speeds"),
+        match self.0 {
+            Some(line) => write!(f, "best\t{line}"),
+            None => f.write_str("no line\tfewer than two speeds"),
         }
     }
 }
@@ -74,7 +69,7 @@ pub fn find_best<R: Rack, F: Rack>(
     let lived = live(fresh, EvenPrices, &calls[..planned], moments);
     let found = lived.count.map(|count| Found {
         count,
-        best: in_force(rack, moments[count - 1].pass),
+        best: BestLine(in_force(rack, moments[count - 1].pass)),
     });
     Finding {
         found,
@@ -90,16 +85,11 @@ pub fn settles(reply: Reply) -> bool
 }
 
 // A line in force with its total, or that none is.
-fn in_force<R: Rack>(rack: &R, pass: Option<Line>) -> BestLine
+fn in_force<R: Rack>(rack: &R, pass: Option<Line>) -> Option<PricedLine>
     ensures { Tells (R.Rack.held rack.now) pass result }
 {
-    match pass {
-        Some(line) => BestLine::Best(CheaperLine {
-            a: line.a,
-            b: line.b,
-            c: line.c,
-            total: total(rack, &EvenPrices, line),
-        }),
-        None => BestLine::NoLine,
-    }
+    pass.map(|line| PricedLine {
+        line,
+        total: total(rack, &EvenPrices, line),
+    })
 }

@@ -1,13 +1,13 @@
 //! One text line of a shot after another, and what they cost together, at even prices.
-ghost use Rattle.std.specs.Prelude.{◌≡◌, ◌<◌, length};
-ghost use Rattle.appraisal.specs.Judging.{Judges, Stands, Closes};
+ghost use Rattle.std.specs.Prelude.{◌≡◌, length, IfOk, IfErr};
+ghost use Rattle.appraisal.specs.Judging.{Judges, Entered, Declined, Stands, Closes};
 
 use crate::answer::Answer;
 use crate::reading::read_entry;
 use fit::total;
 use lines::Line;
 use racks::Rack;
-use shots::{EvenPrices, Refusal};
+use shots::{EvenPrices, Refusal, Shot};
 
 /// Adds the shot that a text line writes to the rack, and answers its place, side and miss against
 /// the card's line. A text line that is no four numbers is refused by `Unreadable`, else as the
@@ -16,36 +16,27 @@ pub fn judge<R: Rack>(rack: &mut R, line: Line, text: &[u8], number: u64) -> Ans
     ensures room { R.Rack.capacity rack.new ≡ R.Rack.capacity rack.old }
     ensures judged { Judges (R.Rack.capacity rack.old) (R.Rack.held rack.old) line text.now number result (R.Rack.held rack.new) }
 {
-    let Some(entry) = read_entry(text) else {
-        return Answer::Refused {
-            refusal: Refusal::Unreadable,
-            line: number,
-        };
-    };
-    let place = (*rack).count();
-    match rack.add(entry.speed, entry.lead, entry.weight, entry.stuff) {
-        Err(refusal) => Answer::Refused {
-            refusal,
-            line: number,
-        },
-        Ok(()) => judged_at(rack, line, place),
-    }
+    judged(rack, line, text).unwrap_or_else(|refusal| Answer::Refused {
+        refusal,
+        line: number,
+    })
 }
 
-// The answer to the shot at a place that is known to hold one.
-fn judged_at<R: Rack>(rack: &R, line: Line, place: usize) -> Answer
-    requires { place < length (R.Rack.held rack.now) }
-    ensures { Stands (R.Rack.held rack.now) line place result }
+// The answer to a text line whose shot the rack takes, or why the text line is refused.
+fn judged<R: Rack>(rack: &mut R, line: Line, text: &[u8]) -> Result<Answer, Refusal>
+    ensures room { R.Rack.capacity rack.new ≡ R.Rack.capacity rack.old }
+    ensures taken { IfOk result (λ answer. Entered (R.Rack.capacity rack.old) (R.Rack.held rack.old) text.now (R.Rack.held rack.new) × Stands (R.Rack.held rack.new) line (length (R.Rack.held rack.old)) answer) }
+    ensures declined { IfErr result (λ refusal. (R.Rack.held rack.new ≡ R.Rack.held rack.old) × Declined (R.Rack.capacity rack.old) (R.Rack.held rack.old) text.now refusal) }
 {
-    // a rack holds at most 512 shots, so the place fits
-    match rack.read(place as i32) {
-        Ok(shot) => Answer::Judged {
-            place,
-            side: line.side(shot),
-            miss: line.miss(shot),
-        },
-        Err(_) => unreachable(),
-    }
+    let entry = read_entry(text).ok_or(Refusal::Unreadable)?;
+    let shot = Shot::try_from(entry)?;
+    let place = (*rack).count();
+    rack.add(entry)?;
+    Ok(Answer::Judged {
+        place,
+        side: line.side(shot),
+        miss: line.miss(shot),
+    })
 }
 
 /// What the card's line costs over all shots of the rack: T, A, and T/A cut to thousandths.

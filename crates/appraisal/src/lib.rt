@@ -11,12 +11,13 @@ mod planning;
 mod reading;
 mod text;
 
-pub use answer::{Answer, CheaperLine, FailingPlace};
+pub use answer::{Answer, FailingPlace};
 pub use deciding::verdict;
 pub use finding::{BestLine, Finding, Found, find_best, settles};
 pub use judging::{close, judge};
 pub use planning::plan;
-pub use reading::{Entry, read_card, read_entry};
+pub use reading::{read_card, read_entry};
+pub use shots::Entry;
 pub use text::text_line;
 
 #[cfg(test)]

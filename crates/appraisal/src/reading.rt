@@ -5,15 +5,7 @@ ghost use Rattle.std.specs.Prelude.{ℤ, MatchOption};
 
 use fields::{Digits, Token, field_count, token_at};
 use lines::Line;
-
-/// The four numbers of a shot as a text line writes them, in range or not.
-#[derive(Clone, Copy, PartialEq, Eq, Debug)]
-pub struct Entry {
-    pub speed: i32,
-    pub lead: i32,
-    pub weight: i32,
-    pub stuff: i32,
-}
+use shots::Entry;
 
 // The number that field `k` writes; none where there is no such field, or it is no number.
 fn number_at(text: &[u8], k: usize, digits: Digits) -> Option<i32>

@@ -1,10 +1,15 @@
 //! Text lines at their edges, a rack that is full, and lives of few shots.
 use crate::*;
 use law::{Call, Moment, Reply};
-use lines::{Line, Side};
+use lines::{Line, PricedLine, Side};
 use racks::{Rack, RecordRack};
 use shots::{Refusal, Shot};
 use std::test::Fail;
+
+// The line of three numbers.
+fn line(a: i32, b: i32, c: i32) -> Result<Line, Fail> {
+    Line::new(a, b, c).ok_or_else(|| Fail::new("no line"))
+}
 
 #[test]
 fn cards_are_lines(rt: HostRuntime) {
@@ -19,20 +24,16 @@ fn cards_are_lines(rt: HostRuntime) {
 
 #[test]
 fn verdicts_name_a_cheaper_line(rt: HostRuntime) -> Result<(), Fail> {
-    let Some(level) = Line::new(1, 0, 0) else {
-        return Err(Fail::new("1 0 0 is a line"));
-    };
-    let Some(best) = Line::new(75, -1, 2000) else {
-        return Err(Fail::new("75 -1 2000 is a line"));
-    };
-    let mut records = [Shot::new(1, 0, 1, 0)?; 5];
+    let level = line(1, 0, 0)?;
+    let best = line(75, -1, 2000)?;
+    let mut records = [Shot::try_from(Entry::new(1, 0, 1, 0))?; 5];
     let mut rack = RecordRack::open(&mut records);
-    rack.add(500, 20, 1, 0)?;
-    rack.add(1000, 0, 1, 0)?;
+    rack.add(Entry::new(500, 20, 1, 0))?;
+    rack.add(Entry::new(1000, 0, 1, 0))?;
     assert_eq!(rt; verdict(&rack, level), Answer::Untested);
-    rack.add(2000, 0, 1, 0)?;
-    rack.add(3000, 0, 1, 0)?;
-    rack.add(3500, -20, 1, 0)?;
+    rack.add(Entry::new(2000, 0, 1, 0))?;
+    rack.add(Entry::new(3000, 0, 1, 0))?;
+    rack.add(Entry::new(3500, -20, 1, 0))?;
     assert_eq!(rt;
         verdict(&rack, level),
         Answer::NotCheapest {
@@ -41,10 +42,8 @@ fn verdicts_name_a_cheaper_line(rt: HostRuntime) -> Result<(), Fail> {
                 rise: 5000,
                 fall: -1000,
             },
-            by: CheaperLine {
-                a: 75,
-                b: -1,
-                c: 2000,
+            by: PricedLine {
+                line: best,
                 total: 2000,
             },
         }
@@ -55,14 +54,15 @@ fn verdicts_name_a_cheaper_line(rt: HostRuntime) -> Result<(), Fail> {
 
 #[test]
 fn a_life_finds_the_best_line(rt: HostRuntime) -> Result<(), Fail> {
-    let mut records = [Shot::new(1, 0, 1, 0)?; 5];
+    let best = line(75, -1, 2000)?;
+    let mut records = [Shot::try_from(Entry::new(1, 0, 1, 0))?; 5];
     let mut rack = RecordRack::open(&mut records);
-    rack.add(500, 20, 1, 0)?;
-    rack.add(1000, 0, 1, 0)?;
-    rack.add(2000, 0, 1, 0)?;
-    rack.add(3000, 0, 1, 0)?;
-    rack.add(3500, -20, 1, 0)?;
-    let mut others = [Shot::new(1, 0, 1, 0)?; 5];
+    rack.add(Entry::new(500, 20, 1, 0))?;
+    rack.add(Entry::new(1000, 0, 1, 0))?;
+    rack.add(Entry::new(2000, 0, 1, 0))?;
+    rack.add(Entry::new(3000, 0, 1, 0))?;
+    rack.add(Entry::new(3500, -20, 1, 0))?;
+    let mut others = [Shot::try_from(Entry::new(1, 0, 1, 0))?; 5];
     let mut fresh = RecordRack::open(&mut others);
     let mut calls = [Call::Issue; 11];
     let mut moments = [Moment {
@@ -81,23 +81,21 @@ fn a_life_finds_the_best_line(rt: HostRuntime) -> Result<(), Fail> {
     assert_eq!(rt; found.count, 11);
     assert_eq!(rt;
         found.best,
-        BestLine::Best(CheaperLine {
-            a: 75,
-            b: -1,
-            c: 2000,
+        BestLine(Some(PricedLine {
+            line: best,
             total: 2000,
-        })
+        }))
     );
     Ok(())
 }
 
 #[test]
 fn one_speed_has_no_line(rt: HostRuntime) -> Result<(), Fail> {
-    let mut records = [Shot::new(1, 0, 1, 0)?; 2];
+    let mut records = [Shot::try_from(Entry::new(1, 0, 1, 0))?; 2];
     let mut rack = RecordRack::open(&mut records);
-    rack.add(500, 20, 1, 0)?;
-    rack.add(500, 10, 1, 0)?;
-    let mut others = [Shot::new(1, 0, 1, 0)?; 2];
+    rack.add(Entry::new(500, 20, 1, 0))?;
+    rack.add(Entry::new(500, 10, 1, 0))?;
+    let mut others = [Shot::try_from(Entry::new(1, 0, 1, 0))?; 2];
     let mut fresh = RecordRack::open(&mut others);
     let mut calls = [Call::Issue; 5];
     let mut moments = [Moment {
@@ -108,7 +106,7 @@ fn one_speed_has_no_line(rt: HostRuntime) -> Result<(), Fail> {
     let Some(found) = find_best(&rack, &mut fresh, &mut calls, &mut moments).found else {
         return Err(Fail::new("there is room for 5 moments"));
     };
-    assert_eq!(rt; found.best, BestLine::NoLine);
+    assert_eq!(rt; found.best, BestLine(None));
     assert_eq!(rt; moments[2].reply, Reply::Refused(Refusal::OneSpeed));
     Ok(())
 }
@@ -123,10 +121,8 @@ fn text_lines_end_at_feeds(rt: HostRuntime) {
 
 #[test]
 fn a_full_rack_refuses_by_5(rt: HostRuntime) -> Result<(), Fail> {
-    let Some(line) = Line::new(25, -1, 1000) else {
-        return Err(Fail::new("25 -1 1000 is a line"));
-    };
-    let mut records = [Shot::new(1, 0, 1, 0)?; 1];
+    let line = line(25, -1, 1000)?;
+    let mut records = [Shot::try_from(Entry::new(1, 0, 1, 0))?; 1];
     let mut rack = RecordRack::open(&mut records);
     assert_eq!(rt;
         judge(&mut rack, line, b"2000\t0\t3\t0", 2),

@@ -15,10 +15,7 @@ fn main(rt: HostRuntime) -> anyhow::Result<()> {
 
 // Answers the card, each shot and the whole.
 fn appraise(rt: &impl Print, input: &[u8]) -> anyhow::Result<()> {
-    let (card, mut rest) = match text_line(input) {
-        Some(cut) => cut,
-        None => (input, input),
-    };
+    let (card, mut rest) = text_line(input).unwrap_or((input, input));
     let Some(line) = read_card(card) else {
         let answer = Answer::Refused {
             refusal: Refusal::Unreadable,
@@ -26,8 +23,11 @@ fn appraise(rt: &impl Print, input: &[u8]) -> anyhow::Result<()> {
         };
         return Ok(println!(rt; "{answer}")?);
     };
-    let Ok(blank) = Shot::new(1, 0, 1, 0) else {
-        unreachable()
+    let blank = Shot {
+        speed: 1,
+        lead: 0,
+        weight: 1,
+        stuff: 0,
     };
     let mut records = [blank; 512];
     let mut rack = RecordRack::open(&mut records);

@@ -5,7 +5,7 @@
 use law::Word;
 use racks::{Rack, RecordRack};
 use sheet::Sheet;
-use shots::{EvenPrices, PriceRule, Refusal, Shot};
+use shots::{Entry, EvenPrices, PriceRule, Shot};
 use slips::Row;
 use std::rt::{Clock, Runtime};
 use std::time::Instant;
@@ -25,13 +25,16 @@ fn pace_all<T: Runtime>(rt: &T) -> anyhow::Result<()> {
 
 // Times the calls over so many shots.
 fn pace<T: Runtime>(rt: &T, count: u32) -> anyhow::Result<()> {
-    let Ok(blank) = Shot::new(1, 0, 1, 0) else {
-        unreachable()
+    let blank = Shot {
+        speed: 1,
+        lead: 0,
+        weight: 1,
+        stuff: 0,
     };
     let mut records = [blank; 512];
     let mut rack = RecordRack::open(&mut records);
     for i in 0..count {
-        let _ = rack.add(speed(i), lead(i), 1, 0);
+        let _ = rack.add(entry(i));
     }
     let mut sheet = Sheet::begin(&mut rack, EvenPrices);
     pace_pivots(rt, &mut sheet, count)?;
@@ -49,13 +52,9 @@ fn pace_pivots<T: Runtime, R: Rack, P: PriceRule>(
     let mut pivots: u32 = 0;
     for _ in 0..1000 {
         pivots = pivots.saturating_add(1);
-        match sheet.pivot() {
-            Ok(pivoted) => {
-                if pivoted.word == Word::Proved {
-                    break;
-                }
-            }
-            Err(_) => break,
+        let Ok(pivoted) = sheet.pivot() else { break };
+        if pivoted.word == Word::Proved {
+            break;
         }
     }
     let each = start.elapsed(rt)?.as_nanos() / u128::from(pivots.max(1));
@@ -87,7 +86,7 @@ fn pace_changes<T: Runtime, R: Rack, P: PriceRule>(
         let _ = sheet.strike((last % 512) as i32);
         strikes = strikes.saturating_add(start.elapsed(rt)?.as_nanos());
         let start = Instant::now(rt)?;
-        let _ = sheet.add(speed(last), lead(last), 1, 0);
+        let _ = sheet.add(entry(last));
         adds = adds.saturating_add(start.elapsed(rt)?.as_nanos());
     }
     let strike = strikes / u128::from(TURNS);
@@ -132,6 +131,11 @@ fn rates_in_row<R: Rack, P: PriceRule>(sheet: &Sheet<R, P>, row: usize) -> i64 {
     let _ = sheet.slip(&mut table);
     let Row { rise, fall, .. } = table[row % 512];
     rise.wrapping_sub(fall)
+}
+
+// Entries of one weight and no stuff.
+fn entry(i: u32) -> Entry {
+    Entry::new(speed(i), lead(i), 1, 0)
 }
 
 // Speeds that differ, in no order.

@@ -17,6 +17,6 @@ returns-clause-finds g c =
     let after = c.live-lived.new.moments in
     let p = c.in-Some.ensures in
     let fits : length (plan_of xs) ≤ length c.args.calls.now = omega (arith, p) in
-    let told : MatchOption c.live-lived.result.count (c.map-found.result ≡ None) (λ n. IsSomeAnd c.map-found.result (λ f. (f.count ≡ n) × (d : Moment) × Tells xs (get_or after (n - 1) d).pass f.best)) = search rules in
+    let told : MatchOption c.live-lived.result.count (c.map-found.result ≡ None) (λ n. IsSomeAnd c.map-found.result (λ f. (f.count ≡ n) × (d : Moment) × Tells xs (get_or after (n - 1) d).pass f.best.0)) = search rules in
     let lives = as_planned xs fresh ys c.args.calls.now c.plan.new.calls before after cap c.in-Some.planned c.live-lived.result.count p c.live-lived.ensures.lives in
     finds cap (length c.args.calls.now) xs fresh ys before after c.live-lived.result.count c.map-found.result fits c.live-lived.auto.moments lives told
