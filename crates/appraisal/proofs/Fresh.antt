@@ -1,8 +1,8 @@
 -- A fresh life of shots by their plan: the adds leave just these shots held, so the pivots bring a line into force that is
 -- the best of them, or find one speed.
-use Rattle.std.proofs.Common.{◌≡◌, ℕ, zero, suc, ◌+◌, ◌<◌, ◌≤◌, List, [], ◌∷◌, ◌++◌, map, reverse, length, get_or, take, replicate, ℤ, pos, Some, None, Option, sym, refl, ap, ◌∙◌, subst, append_assoc, append-nil, arith}
+use Rattle.std.proofs.Common.{◌≡◌, ℕ, zero, suc, ◌+◌, ◌<◌, ◌≤◌, List, [], ◌∷◌, ◌++◌, map, reverse, length, get_or, take, drop, replicate, ℤ, Some, None, sym, refl, ap, ◌∙◌, subst, append_assoc, append-nil, arith}
 use mathlib.Core.List.{reverse-append, reverse-cons}
-use Rattle.std.proofs.lemmas.List.{length-append, length-map, length-replicate, length-reverse, take_more}
+use Rattle.std.proofs.lemmas.List.{length-append, length-map, length-replicate, length-reverse, take_more, take-append-drop, take-map, drop-map, take_at, drop_at}
 use Rattle.std.proofs.lemmas.Option.{none-some}
 use Rattle.shots.specs.declared.shot.Shot.{Shot}
 use Rattle.shots.proofs.Images.{no_fault}
@@ -56,29 +56,6 @@ one_speed_lem : (xs : List Shot) → ((OneSpeed xs → ⊥) → ⊥) → OneSpee
 one_speed_lem xs h x some at j y l e = same_nat y.speed x.speed (λ n. h (λ o. n (o x some at j y l e)))
 
 -- ---- the adds
--- the row of a plan is a row of adds, then one of pivots
-record Split (xs : List Shot) (cs : List Call) (row : List Moment) : Type 0 where
-  pub adds : List Moment
-  pub rest : List Moment
-  pub parts : row ≡ adds ++ rest
-  pub added : map call_of adds ≡ map add_of xs
-  pub others : map call_of rest ≡ cs
-
-split : (xs : List Shot) (cs : List Call) (row : List Moment) → map call_of row ≡ map add_of xs ++ cs → Split xs cs row
-split [] cs row e = record { adds = []; rest = row; parts = refl; added = refl; others = e }
-split (x ∷ xs) cs [] e = absurd cc
-split (x ∷ xs) cs (m ∷ row) e =
-    let head : m.call ≡ add_of x = cc e in
-    let tail : map call_of row ≡ map add_of xs ++ cs = cc e in
-    let s = split xs cs row tail in
-    record {
-      adds = m ∷ s.adds;
-      rest = s.rest;
-      parts = ap (λ (l : List Moment). m ∷ l) s.parts;
-      added = ap (λ (c : Call). c ∷ map call_of s.adds) head ∙ ap (λ (l : List Call). add_of x ∷ l) s.added;
-      others = s.others;
-    }
-
 accepted : (cap : ℕ) (xs : List Shot) (z : Shot) → length xs < cap → add_fault cap xs (entry_of z) ≡ None
 accepted cap xs z h = let f = no_fault z in grind arith
 
@@ -125,21 +102,31 @@ module _ (tariff : ℤ → ℕ × ℕ) (cap : ℕ) where
     pub best : (l : Line) → in_force_by past ≡ Some l → Best tariff xs l
     pub none : in_force_by past ≡ None → OneSpeed xs
 
-  pub ended : (xs : List Shot) (row : List Moment) → Transcript tariff cap (plan_of xs) row → length xs ≤ cap → Ended xs (reverse row)
-  ended xs row t room =
-      let s = split xs (replicate (suc (length xs)) Pivot) row t.called in
-      let turned : reverse row ≡ reverse s.rest ++ reverse s.adds = ap reverse s.parts ∙ reverse-append s.adds s.rest in
+  ended_by : (xs : List Shot) (row adds rest : List Moment) → row ≡ adds ++ rest → map call_of adds ≡ map add_of xs → map call_of rest ≡ replicate (suc (length xs)) Pivot → Transcript tariff cap (plan_of xs) row → length xs ≤ cap → Ended xs (reverse row)
+  ended_by xs row adds rest parts added others t room =
+      let turned : reverse row ≡ reverse rest ++ reverse adds = ap reverse parts ∙ reverse-append adds rest in
       let kept = from_each row [] row t.each refl tt in
       let parted = subst (Promises tariff cap) turned kept in
-      let adds = held_added [] xs [] s.adds s.added (subst (Promises tariff cap) (sym (append-nil (reverse s.adds))) (older (reverse s.rest) (reverse s.adds) parted)) refl (omega arith) in
-      let held : held_by (reverse s.adds) ≡ xs = ap held_by (sym (append-nil (reverse s.adds))) ∙ adds in
-      let pivots : Pivoting (reverse s.rest) = subst Pivoting (append-nil (reverse s.rest)) (pivoting (suc (length xs)) s.rest [] s.others tt) in
-      let all : held_by (reverse row) ≡ xs = ap held_by turned ∙ held_pivots (reverse s.adds) (reverse s.rest) pivots ∙ held in
-      let long : length s.rest ≡ suc (length xs) = sym (length-map s.rest call_of) ∙ ap length s.others ∙ length-replicate (suc (length xs)) Pivot in
-      let enough : length (held_by (reverse s.adds)) < length (reverse s.rest) = let n = ap length held in let r = length-reverse s.rest in omega arith in
-      let in-force : (OneSpeed xs → ⊥) → (l : Line) × (in_force_by (reverse s.rest ++ reverse s.adds) ≡ Some l) = λ two. pivots_end tariff cap (reverse s.adds) (reverse s.rest) parted pivots enough (λ o. two (subst OneSpeed held o)) in
+      let from-adds = held_added [] xs [] adds added (subst (Promises tariff cap) (sym (append-nil (reverse adds))) (older (reverse rest) (reverse adds) parted)) refl (omega arith) in
+      let held : held_by (reverse adds) ≡ xs = ap held_by (sym (append-nil (reverse adds))) ∙ from-adds in
+      let pivots : Pivoting (reverse rest) = subst Pivoting (append-nil (reverse rest)) (pivoting (suc (length xs)) rest [] others tt) in
+      let all : held_by (reverse row) ≡ xs = ap held_by turned ∙ held_pivots (reverse adds) (reverse rest) pivots ∙ held in
+      let long : length rest ≡ suc (length xs) = sym (length-map rest call_of) ∙ ap length others ∙ length-replicate (suc (length xs)) Pivot in
+      let enough : length (held_by (reverse adds)) < length (reverse rest) = let n = ap length held in let r = length-reverse rest in omega arith in
+      let in-force : (OneSpeed xs → ⊥) → (l : Line) × (in_force_by (reverse rest ++ reverse adds) ≡ Some l) = λ two. pivots_end tariff cap (reverse adds) (reverse rest) parted pivots enough (λ o. two (subst OneSpeed held o)) in
       record {
         held = all;
         best = λ l e. subst (λ (ys : List Shot). Best tariff ys l) all (best_in_force (reverse row) kept l e);
         none = λ e. one_speed_lem xs (λ two. none-some (in-force two).0 (sym e ∙ ap in_force_by turned ∙ (in-force two).1));
       }
+
+  -- the row of a plan is a row of adds, then one of pivots
+  pub ended : (xs : List Shot) (row : List Moment) → Transcript tariff cap (plan_of xs) row → length xs ≤ cap → Ended xs (reverse row)
+  ended xs row t room =
+      let n = length xs in
+      let called : map call_of row ≡ map add_of xs ++ replicate (suc n) Pivot = t.called in
+      let size = length-map xs add_of in
+      ended_by xs row (take n row) (drop n row) (sym (take-append-drop n row))
+      (rw (← take-map call_of n row, called) (take_at (map add_of xs) (replicate (suc n) Pivot) n size))
+      (rw (← drop-map call_of n row, called) (drop_at (map add_of xs) (replicate (suc n) Pivot) n size))
+      t room

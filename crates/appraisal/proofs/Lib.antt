@@ -1,5 +1,6 @@
 pub mod Writing
 pub mod Quotient
+pub mod Thousandths
 pub mod Entering
 pub mod Feeds
 pub mod Verdicts

@@ -1,12 +1,12 @@
 -- The calls of a plan one by one, and how many there are.
-use Rattle.std.proofs.Common.{◌≡◌, ℕ, suc, ◌+◌, ◌*◌, ◌<◌, ◌≤◌, List, [], ◌∷◌, ◌++◌, map, length, take, drop, set, replicate, Some, sym, refl, ap, ◌∙◌, append_assoc, append-nil, arith}
+use Rattle.std.proofs.Common.{◌≡◌, ℕ, suc, ◌+◌, ◌<◌, ◌≤◌, List, [], ◌∷◌, ◌++◌, map, length, take, drop, set, replicate, Some, sym, ap, ◌∙◌, append_assoc, append-nil, arith}
 use Rattle.std.proofs.lemmas.List.{length-append, length-map, length-replicate, take_more_set, drop-set-lt, drop-drop}
 use Rattle.shots.specs.Shots.{Reads}
 use Rattle.shots.specs.declared.shot.Shot.{Shot}
 use Rattle.shots.specs.declared.entry.Entry.{Entry}
 use Rattle.law.specs.declared.kinds.Call.{Call}
 use Rattle.law.specs.declared.kinds.Call.TheVariants.{Add, Pivot}
-use Rattle.appraisal.specs.Planning.{entry_of, add_of, plan_of, Planned}
+use Rattle.appraisal.specs.Planning.{add_of, plan_of, Planned}
 
 pub length_plan : (xs : List Shot) → length (plan_of xs) ≡ suc (length xs + length xs)
 length_plan xs =

@@ -11,14 +11,11 @@ use Rattle.theory.specs.Points.{Cheaper as IsCheaper}
 use Rattle.theory.specs.Turning.{Turned}
 use Rattle.fit.specs.Points.{point, points}
 use Rattle.fit.specs.Rates.{rise_at, fall_at, Rate}
-use Rattle.fit.specs.Spanning.{TwoSpeeds}
 use Rattle.fit.specs.Testing.{First}
 use Rattle.fit.specs.Totals.{total_of}
 use Rattle.fit.specs.Turning.{Descends}
 use Rattle.fit.proofs.Held.{one_at}
-use Rattle.appraisal.specs.Deciding.{Shown, Cheaper, Verdict}
-use Rattle.appraisal.specs.declared.answer.Answer.{Answer}
-use Rattle.appraisal.specs.declared.answer.Answer.TheVariants.{Refused, Judged, Total, Cheapest, NotCheapest, Untested}
+use Rattle.appraisal.specs.Deciding.{Shown}
 
 module _ (l : Line) (xs : List Shot) (k : ℕ) (p : ℤ) (e : p ≡ pos k) (f : First even l xs k) where
   holds : Holds xs p
@@ -50,11 +47,3 @@ module _ (l : Line) (xs : List Shot) (k : ℕ) (p : ℤ) (e : p ≡ pos k) (f : 
         cheaper = subst (λ n. IsCheaper (any n) (any l) (points even xs)) same q.2;
         total = et;
       }
-
-pub cheaper_verdict : (xs : List Shot) (l : Line) (k : ℕ) (r : Answer) → TwoSpeeds l xs → Cheaper xs l k r → Verdict xs l r
-cheaper_verdict xs l k (Refused e n) t c = c
-cheaper_verdict xs l k (Judged place side miss) t c = c
-cheaper_verdict xs l k (Total t' a q) t c = c
-cheaper_verdict xs l k Cheapest t c = absurd c
-cheaper_verdict xs l k (NotCheapest at by) t h = (t, subst (λ i. Shown xs l i at by) (sym h.0) h.1)
-cheaper_verdict xs l k Untested t c = absurd c

@@ -1,6 +1,6 @@
 -- The verdict on a card, at even prices.
---   Cheaper   the answer tells the first place that fails, its two rates, and a line through it that is cheaper, with its T
---   Verdict   cheapest, where two speeds are on the line and no line is cheaper; else such an answer; untested where the test does not apply
+--   Shown     the place is the first that fails, with its two rates, and the line through it is cheaper, with its T
+--   Verdict   cheapest, where two speeds are on the line and no line is cheaper; else such a place and line; untested where the test does not apply
 -- Assumes nothing.
 use Rattle.std.specs.Prelude.{◌≡◌, ℕ, List}
 use Rattle.shots.specs.Prices.{even}
@@ -26,14 +26,6 @@ pub record Shown (xs : List Shot) (l : Line) (k : ℕ) (at : FailingPlace) (by :
   pub turned : Turned (points even xs) (point even first.shot) (any by.line)
   pub cheaper : IsCheaper (any by.line) (any l) (points even xs)
   pub total : by.total ≡ total_of even by.line xs
-
-abbrev pub Cheaper : List Shot → Line → ℕ → Answer → Type 0
-Cheaper xs l k (Refused e n) = ⊥
-Cheaper xs l k (Judged place side miss) = ⊥
-Cheaper xs l k (Total t a q) = ⊥
-Cheaper xs l k Cheapest = ⊥
-Cheaper xs l k (NotCheapest at by) = (at.place ≡ k) × Shown xs l k at by
-Cheaper xs l k Untested = ⊥
 
 abbrev pub Verdict : List Shot → Line → Answer → Type 0
 Verdict xs l (Refused e n) = ⊥

@@ -71,13 +71,8 @@ impl fmt::Display for Answer {
                 thousandths,
             } => {
                 let whole = thousandths / 1000;
-                let tenth = thousandths / 100 % 10;
-                let hundredth = thousandths / 10 % 10;
-                let thousandth = thousandths % 10;
-                write!(
-                    f,
-                    "total\t{total}\t{a}\t{whole}.{tenth}{hundredth}{thousandth}"
-                )
+                let rest = thousandths % 1000;
+                write!(f, "total\t{total}\t{a}\t{whole}.{rest:03}")
             }
             Answer::Cheapest => f.write_str("cheapest"),
             Answer::NotCheapest { at, by } => write!(f, "not cheapest\t{at}\t{by}"),

@@ -1,7 +1,8 @@
 //! Whether the card is the cheapest line there is over the held shots, at even prices.
+ghost use Rattle.std.specs.Prelude.{◌≡◌};
 ghost use Rattle.shots.specs.Prices.{even};
 ghost use Rattle.fit.specs.Testing.{First};
-ghost use Rattle.appraisal.specs.Deciding.{Verdict, Cheaper};
+ghost use Rattle.appraisal.specs.Deciding.{Verdict, Shown};
 
 use crate::answer::{Answer, FailingPlace};
 use fit::{Outcome, fall_rate, has_two_speeds, rise_rate, test_line, total, turned_line};
@@ -18,25 +19,26 @@ pub fn verdict<R: Rack>(rack: &R, line: Line) -> Answer
     }
     match test_line(rack, &EvenPrices, line) {
         Outcome::Passes => Answer::Cheapest,
-        Outcome::FailsAt(place) => cheaper(rack, line, place),
+        Outcome::FailsAt(place) => {
+            let (at, by) = cheaper(rack, line, place);
+            Answer::NotCheapest { at, by }
+        }
     }
 }
 
-// The answer at the first place that shows that a line is cheaper.
-fn cheaper<R: Rack>(rack: &R, line: Line, place: usize) -> Answer
+// The first place that shows that a line is cheaper, and the line turned about it.
+fn cheaper<R: Rack>(rack: &R, line: Line, place: usize) -> (FailingPlace, PricedLine)
     requires { First even line (R.Rack.held rack.now) place }
-    ensures { Cheaper (R.Rack.held rack.now) line place result }
+    ensures { (result.0.place ≡ place) × Shown (R.Rack.held rack.now) line place result.0 result.1 }
 {
     // a rack holds at most 512 shots, so the place fits
     let at = place as i32;
     let rise = rise_rate(rack, &EvenPrices, line, at).unwrap();
     let fall = fall_rate(rack, &EvenPrices, line, at).unwrap();
     let turned = turned_line(rack, &EvenPrices, at).unwrap();
-    Answer::NotCheapest {
-        at: FailingPlace { place, rise, fall },
-        by: PricedLine {
-            line: turned,
-            total: total(rack, &EvenPrices, turned),
-        },
-    }
+    let by = PricedLine {
+        line: turned,
+        total: total(rack, &EvenPrices, turned),
+    };
+    (FailingPlace { place, rise, fall }, by)
 }

@@ -1,6 +1,6 @@
 //! One text line of a shot after another, and what they cost together, at even prices.
-ghost use Rattle.std.specs.Prelude.{◌≡◌, length, IfOk, IfErr};
-ghost use Rattle.appraisal.specs.Judging.{Judges, Entered, Declined, Stands, Closes};
+ghost use Rattle.std.specs.Prelude.{◌≡◌, length, slice_index_or, IfOk, IfErr};
+ghost use Rattle.appraisal.specs.Judging.{Judges, Entered, Declined, Closes};
 
 use crate::answer::Answer;
 use crate::reading::read_entry;
@@ -16,27 +16,30 @@ pub fn judge<R: Rack>(rack: &mut R, line: Line, text: &[u8], number: u64) -> Ans
     ensures room { R.Rack.capacity rack.new ≡ R.Rack.capacity rack.old }
     ensures judged { Judges (R.Rack.capacity rack.old) (R.Rack.held rack.old) line text.now number result (R.Rack.held rack.new) }
 {
-    judged(rack, line, text).unwrap_or_else(|refusal| Answer::Refused {
-        refusal,
-        line: number,
-    })
+    match add_shot(rack, text) {
+        Ok((place, shot)) => Answer::Judged {
+            place,
+            side: line.side(shot),
+            miss: line.miss(shot),
+        },
+        Err(refusal) => Answer::Refused {
+            refusal,
+            line: number,
+        },
+    }
 }
 
-// The answer to a text line whose shot the rack takes, or why the text line is refused.
-fn judged<R: Rack>(rack: &mut R, line: Line, text: &[u8]) -> Result<Answer, Refusal>
+// Adds the shot that a text line writes, and tells its place and the shot, or why it is refused.
+fn add_shot<R: Rack>(rack: &mut R, text: &[u8]) -> Result<(usize, Shot), Refusal>
     ensures room { R.Rack.capacity rack.new ≡ R.Rack.capacity rack.old }
-    ensures taken { IfOk result (λ answer. Entered (R.Rack.capacity rack.old) (R.Rack.held rack.old) text.now (R.Rack.held rack.new) × Stands (R.Rack.held rack.new) line (length (R.Rack.held rack.old)) answer) }
+    ensures taken { IfOk result (λ p. Entered (R.Rack.capacity rack.old) (R.Rack.held rack.old) text.now (R.Rack.held rack.new) × ((p.0 ≡ length (R.Rack.held rack.old)) × (p.1 ≡ slice_index_or (R.Rack.held rack.new) (length (R.Rack.held rack.old)) p.1))) }
     ensures declined { IfErr result (λ refusal. (R.Rack.held rack.new ≡ R.Rack.held rack.old) × Declined (R.Rack.capacity rack.old) (R.Rack.held rack.old) text.now refusal) }
 {
     let entry = read_entry(text).ok_or(Refusal::Unreadable)?;
     let shot = Shot::try_from(entry)?;
     let place = (*rack).count();
     rack.add(entry)?;
-    Ok(Answer::Judged {
-        place,
-        side: line.side(shot),
-        miss: line.miss(shot),
-    })
+    Ok((place, shot))
 }
 
 /// What the card's line costs over all shots of the rack: T, A, and T/A cut to thousandths.

@@ -1,5 +1,5 @@
 -- `cheaper`: the first place that fails has two rates and a turned line.
-use Rattle.std.proofs.Common.{◌≡◌, pos, refl, ◌∙◌, arith, w32, w64, SFits, to_z, of_z, rules}
+use Rattle.std.proofs.Common.{◌≡◌, pos, refl, ◌∙◌, arith, w32, w64, SFits, to_z, rules}
 use Rattle.std.proofs.lemmas.Int.{ints, to_z-of_z}
 use Rattle.appraisal.proofs.Verdicts.{some_turn, shown}
 use Rattle.appraisal.proofs.deciding.cheaper.Goals as goal

@@ -1,7 +1,6 @@
 -- `verdict`: the test decides for a line with two speeds on it.
 use Rattle.std.proofs.Common.{◌≡◌, true}
 use Rattle.shots.specs.Prices.{even}
-use Rattle.appraisal.proofs.Verdicts.{cheaper_verdict}
 use Rattle.appraisal.proofs.deciding.verdict.Goals as goal
 
 pub returns-in-Passes : goal.returns-in-Passes
@@ -12,4 +11,4 @@ returns-in-Passes g c =
 pub returns-in-FailsAt : goal.returns-in-FailsAt
 returns-in-FailsAt g c =
     let two : c.has_two_speeds.result ≡ true = c.if-not-has_two_speeds.false in
-    cheaper_verdict (g.R.Rack.held c.args.rack.now) c.args.line c.in-FailsAt.place c.cheaper.result (c.has_two_speeds.ensures.shots.0 two) c.cheaper.ensures
+    (c.has_two_speeds.ensures.shots.0 two, rw (← c.cheaper.ensures.0) at c.cheaper.ensures.1)

@@ -1,11 +1,7 @@
 -- `text_line`: the input is cut at its first line feed, if it has one.
 use Rattle.std.proofs.Common.{refl, sym, inl, inr, rules}
-use Rattle.std.proofs.lemmas.List.{nil_from_length}
 use Rattle.appraisal.proofs.Feeds.{cut_feed, no_feed, no_feed_at_all}
 use Rattle.appraisal.proofs.text.text_line.Goals as goal
-
-pub returns-then-is_empty : goal.returns-then-is_empty
-returns-then-is_empty c = nil_from_length c.args.input.now (search rules)
 
 pub returns-in-Some : goal.returns-in-Some
 returns-in-Some c =
