@@ -5,7 +5,7 @@ ghost use Rattle.fit.specs.Testing.{First};
 ghost use Rattle.appraisal.specs.Deciding.{Verdict, Shown};
 
 use crate::answer::{Answer, FailingPlace};
-use fit::{Outcome, fall_rate, has_two_speeds, rise_rate, test_line, total, turned_line};
+use fit::{Fit, has_two_speeds};
 use lines::{Line, PricedLine};
 use racks::Rack;
 use shots::EvenPrices;
@@ -17,9 +17,13 @@ pub fn verdict<R: Rack>(rack: &R, line: Line) -> Answer
     if !has_two_speeds(rack, line) {
         return Answer::Untested;
     }
-    match test_line(rack, &EvenPrices, line) {
-        Outcome::Passes => Answer::Cheapest,
-        Outcome::FailsAt(place) => {
+    let fit = Fit {
+        rack,
+        rule: &EvenPrices,
+    };
+    match fit.failing_place(line) {
+        None => Answer::Cheapest,
+        Some(place) => {
             let (at, by) = cheaper(rack, line, place);
             Answer::NotCheapest { at, by }
         }
@@ -33,12 +37,16 @@ fn cheaper<R: Rack>(rack: &R, line: Line, place: usize) -> (FailingPlace, Priced
 {
     // a rack holds at most 512 shots, so the place fits
     let at = place as i32;
-    let rise = rise_rate(rack, &EvenPrices, line, at).unwrap();
-    let fall = fall_rate(rack, &EvenPrices, line, at).unwrap();
-    let turned = turned_line(rack, &EvenPrices, at).unwrap();
+    let fit = Fit {
+        rack,
+        rule: &EvenPrices,
+    };
+    let rise = fit.rise_rate(line, at).unwrap();
+    let fall = fit.fall_rate(line, at).unwrap();
+    let turned = fit.turned_line(at).unwrap();
     let by = PricedLine {
         line: turned,
-        total: total(rack, &EvenPrices, turned),
+        total: fit.total(turned),
     };
     (FailingPlace { place, rise, fall }, by)
 }

@@ -4,7 +4,7 @@ ghost use Rattle.appraisal.specs.Finding.{best_text, Tells, Finds, Settles};
 ghost use Rattle.appraisal.specs.Planning.{Planned};
 
 use crate::planning::plan;
-use fit::total;
+use fit::Fit;
 use law::{Call, Moment, Reply, Word};
 use lines::{Line, PricedLine};
 use racks::Rack;
@@ -88,8 +88,14 @@ pub fn settles(reply: Reply) -> bool
 fn in_force<R: Rack>(rack: &R, pass: Option<Line>) -> Option<PricedLine>
     ensures { Tells (R.Rack.held rack.now) pass result }
 {
-    pass.map(|line| PricedLine {
-        line,
-        total: total(rack, &EvenPrices, line),
+    pass.map(|line| {
+        let fit = Fit {
+            rack,
+            rule: &EvenPrices,
+        };
+        PricedLine {
+            line,
+            total: fit.total(line),
+        }
     })
 }

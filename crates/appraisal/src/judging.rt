@@ -4,7 +4,7 @@ ghost use Rattle.appraisal.specs.Judging.{Judges, Entered, Declined, Closes};
 
 use crate::answer::Answer;
 use crate::reading::read_entry;
-use fit::total;
+use fit::Fit;
 use lines::Line;
 use racks::Rack;
 use shots::{EvenPrices, Refusal, Shot};
@@ -46,7 +46,11 @@ fn add_shot<R: Rack>(rack: &mut R, text: &[u8]) -> Result<(usize, Shot), Refusal
 pub fn close<R: Rack>(rack: &R, line: Line) -> Answer
     ensures { Closes (R.Rack.held rack.now) line result }
 {
-    let total = total(rack, &EvenPrices, line);
+    let fit = Fit {
+        rack,
+        rule: &EvenPrices,
+    };
+    let total = fit.total(line);
     Answer::Total {
         total,
         a: line.a,
