@@ -10,10 +10,7 @@ use std::process::Abort;
 use std::test::Fail;
 
 fn line(a: i32, b: i32, c: i32) -> Result<Line, Fail> {
-    match Line::new(a, b, c) {
-        Some(line) => Ok(line),
-        None => Err(Fail::new("these three numbers make a line")),
-    }
+    Line::new(a, b, c).ok_or_else(|| Fail::new("these three numbers make a line"))
 }
 
 // What a pivot should answer.
@@ -26,10 +23,7 @@ fn answer(word: Word, line: Line, total: i64) -> Result<Pivoted, Refusal> {
 
 // The line for which issue answers a pass now.
 fn in_force<R: Rack, P: PriceRule>(sheet: &Sheet<R, P>) -> Option<Line> {
-    match sheet.issue() {
-        Ok(pass) => Some(pass.give_up()),
-        Err(_) => None,
-    }
+    Some(sheet.issue().ok()?.give_up())
 }
 
 // The five shots, and three pivots that bring their line into force.
@@ -180,10 +174,7 @@ fn a_pass_writes_one_card(rt: HostRuntime) -> Result<(), Fail> {
     let mut sheet = Sheet::begin(&mut rack, EvenPrices);
     three_pivots(&rt, &mut sheet)?;
     let mut card = line(1, 0, 0)?;
-    match sheet.issue() {
-        Ok(pass) => pass.spend(&mut card),
-        Err(_) => return Err(Fail::new("a line is in force")),
-    }
+    sheet.issue()?.spend(&mut card);
     assert_eq!(rt; card, line(75, -1, 2000)?);
     Ok(())
 }

@@ -6,7 +6,8 @@ ghost use Rattle.fields.specs.Numbers.{Natural, Numeral, Within, WritesBack, sig
 
 use crate::digits::Digits;
 
-// The number that digits write, with no zero in front of others.
+// The number that digits write, with no zero in front of others. Not by `parse`, which also takes a plus
+// and zeros in front.
 fn natural(ds: &[u8], digits: Digits) -> Option<u32>
     ensures value { SomeIff result (Natural (most_of digits) ds.now) (value_of ds.now) }
     ensures small { IfSome result (λ n. n < 10 ^ most_of digits) }

@@ -22,6 +22,7 @@ impl<R: Rack, P: PriceRule> Fit<'_, R, P> {
         ensures most { Bounded line (R.Rack.held self.now.rack.now) result }
         ensures even { Even (P.PriceRule.tariff self.now.rule.now) line (R.Rack.held self.now.rack.now) result }
     {
+        // a loop: of a `sum` of signed numbers no proof knows that it fits
         let mut sum = 0;
         for shot in self.rack.iter() {
             sum += line.share(shot, self.prices_of(shot));

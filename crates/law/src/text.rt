@@ -7,6 +7,7 @@ use std::fmt;
 
 impl Word {
     /// The word in print.
+    // a `&str`, as of the other words below, so that a caller has it without memory to print into
     pub fn text(self) -> &'static str
         ensures { result.now ≡ word_of self }
     {

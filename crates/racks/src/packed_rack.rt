@@ -12,6 +12,8 @@ use shots::{Entry, Refusal, Shot};
 
 /// A rack in lent bytes, six to a shot. It has room for one shot in each six, at most 512; no call
 /// writes a byte at or past the images that it leaves.
+// not one type with the rack in records: its memory is bytes of any length, and what each byte holds is
+// promised, so that a trait of cells would say every clause on memory twice
 #[derive(Drop)]
 pub struct PackedRack<'a> {
     bytes: &'a mut [u8],

@@ -10,6 +10,8 @@ use shots::{Entry, Refusal, Shot};
 
 /// A rack in lent records. It has room for one shot in each, at most 512; no call writes a record
 /// at or past the count that it leaves.
+// the count stands beside the slice, and no `Vec` in their place, since the memory is lent and what lies
+// past the count is promised too
 #[derive(Drop)]
 pub struct RecordRack<'a> {
     records: &'a mut [Shot],

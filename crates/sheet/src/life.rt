@@ -65,6 +65,7 @@ fn run<R: Rack, P: PriceRule>(sheet: &mut Sheet<R, P>, calls: &[Call], moments: 
     ensures room { R.Rack.capacity sheet.new.rack ≡ R.Rack.capacity sheet.old.rack }
     ensures rule { sheet.new.rule ≡ sheet.old.rule }
 {
+    // by index: of what `iter_mut` yields in a `zip` no proof knows where it lies in the moments
     for (i, call) in calls.iter().enumerate() {
         moments[i] = perform(sheet, *call);
     }

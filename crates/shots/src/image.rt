@@ -9,6 +9,7 @@ use crate::shot::Shot;
 
 impl Shot {
     /// The six bytes of this shot. No other shot has them.
+    // a method, as `to_be_bytes` is, and no `From`: six bytes alone do not say that they are an image
     pub fn image(self) -> [u8; 6]
         ensures value { result ≡ image_of self }
         ensures only { (other : Shot) → image_of other ≡ result → other ≡ self }

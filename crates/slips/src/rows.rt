@@ -42,6 +42,8 @@ fn fill<R: Rack, P: PriceRule>(fit: &Fit<R, P>, line: Line, table: &mut [Row])
     ensures { table.new ≡ rows_of (P.PriceRule.tariff fit.now.rule.now) line (R.Rack.held fit.now.rack.now) ++ drop (on_line line (R.Rack.held fit.now.rack.now)) table.old }
 {
     let mut count = 0;
+    // by place, which is all that the rates ask for; and counted, since of what an adapter of `iter_mut`
+    // yields no proof knows where it lies in the table
     for place in 0..fit.rack.count() {
         if let Some(row) = row_at(fit, line, place) {
             table[count] = row;
