@@ -1,7 +1,7 @@
 //! A pull on the balance point.
 
 /// A key and the two prices by which it pulls.
-#[derive(Clone, Copy)]
+#[derive(Clone, Copy, Default)]
 pub struct Pull<K> {
     /// Where it pulls to.
     pub key: K,

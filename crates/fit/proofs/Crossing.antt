@@ -1,12 +1,9 @@
 -- The key A·h - B·s of a shot in 32 bits, for a slope in range: it never wraps.
-use Rattle.std.proofs.Common.{◌≡◌, ℕ, false, List, ℤ, pos, negsuc, ◌-ℤ◌, ◌*ℤ◌, subst, arith, w16, w32, SFits}
-use lib.Signed.{lt_z}
+use Rattle.std.proofs.Common.{◌≡◌, ℕ, ℤ, pos, ◌-ℤ◌, ◌*ℤ◌, arith, w16, w32, SFits}
 use Rattle.std.proofs.lemmas.Int.{ints}
 use Rattle.shots.specs.declared.shot.Shot.{Shot}
 use Rattle.lines.proofs.Sizes.{Sized, sized_mul, back, cross}
 use Rattle.balance.specs.declared.pull.Pull.{Pull}
-use Rattle.theory.specs.Points.{Point}
-use Rattle.theory.specs.Offsets.{BalancedOffset}
 use Rattle.fit.specs.Offsets.{IsSlope}
 
 -- x and y are the shot's lead and speed as they come from `i32::from`

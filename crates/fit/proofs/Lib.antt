@@ -6,7 +6,6 @@ pub mod Tests
 pub mod Speeds
 pub mod Mounted
 pub mod Crossing
-pub mod Filled
 pub mod Pulling
 pub mod Swings
 pub mod Weighing

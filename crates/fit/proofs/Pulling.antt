@@ -1,6 +1,5 @@
 -- The pulls of shots about a shot z: their list as it grows, where each comes from, and that their prices are in range.
-use Rattle.std.proofs.Common.{◌≡◌, ℕ, zero, suc, ◌+◌, ◌-◌, ◌*◌, ◌<◌, ◌≤◌, List, [], ◌∷◌, ◌++◌, length, get_or, take, set, ℤ, pos, ◌*ℤ◌, ◌≤ℤ◌, sym, refl, ap, ◌∙◌, subst, inl, inr, mul-le-mul, arith}
-use Rattle.std.proofs.lemmas.List.{take_more_set}
+use Rattle.std.proofs.Common.{◌≡◌, ℕ, zero, suc, ◌*◌, ◌<◌, ◌≤◌, List, [], ◌∷◌, ◌++◌, length, get_or, ℤ, pos, ◌*ℤ◌, ◌≤ℤ◌, sym, refl, ap, ◌∙◌, subst, inl, inr, mul-le-mul, arith}
 use Rattle.std.proofs.lemmas.Int.{ints}
 use Rattle.shots.specs.Prices.{Fair as FairPrices}
 use Rattle.shots.specs.declared.shot.Shot.{Shot}
@@ -31,9 +30,11 @@ module _ (tariff : ℤ → ℕ × ℕ) (z : Shot) where
   pulls_push (x ∷ xs) ps y q g (inr (p, qs, eq, a, r)) =
       inr (p, qs ++ q ∷ [], ap (λ l. l ++ q ∷ []) eq, a, pulls_push xs qs y q g r)
 
-  pub pulls_more : (xs : List Shot) (y : Shot) (ps : List (Pull Slope)) (n : ℕ) (q : Pull Slope) → n < length ps → PullAt z y (tariff (pos y.stuff)) q → Pulls tariff z xs (take n ps) → Pulls tariff z (xs ++ y ∷ []) (take (n + 1) (set ps n q))
-  pulls_more xs y ps n q g a k =
-      subst (Pulls tariff z (xs ++ y ∷ [])) (sym (take_more_set ps n q g)) (pulls_push xs (take n ps) y q a k)
+  -- no more pulls than shots
+  pub pulls_few : (xs : List Shot) (ps : List (Pull Slope)) → Pulls tariff z xs ps → length ps ≤ length xs
+  pulls_few [] ps h = let l = ap length h in omega arith
+  pulls_few (x ∷ xs) ps (inl h) = let r = pulls_few xs ps h.1 in omega arith
+  pulls_few (x ∷ xs) ps (inr (p, qs, eq, a, h)) = let r = pulls_few xs qs h in let l = ap length eq in omega arith
 
 -- ---- what a pull is worth
 pub record Pulled (z y : Point) (p : Pull Slope) : Type 0 where

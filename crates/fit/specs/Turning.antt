@@ -2,13 +2,12 @@
 --   PullFrom      the pull of two shots, the slower one first: its key is the slope from one to the other, its prices are the weight times either price times the difference in speed
 --   PullAt        the pull of a shot about z at a pair of prices: late under and early over if it is the faster, early under and late over if it is the slower
 --   Pulls         the pulls about z of a list of shots, in their order, without those of z's own speed
---   Filled        the first n places have the pulls of all shots
 --   TurnedAbout   the answer: the line through z with the balance slope, or none where all shots have the speed of z
 --   TurnedAt      the same about the shot at a place; none too where no shot is held there
 --   Descends      if the shot at that place is on a line and has a rate below 0, then the answer is a line, it is cheaper, and it is the lowest of the cheapest lines through the shot
 --   LowestAt      each line through the shot at that place of a lower slope than the answer is dearer
 -- Assumes nothing.
-use Rattle.std.specs.Prelude.{◌≡◌, ℕ, ◌*◌, ◌<◌, ◌≤◌, ◌⊎◌, List, [], ◌∷◌, length, take, ℤ, pos, ◌*ℤ◌, Some, None, Option, slice_index_or, unsigned_abs}
+use Rattle.std.specs.Prelude.{◌≡◌, ℕ, ◌*◌, ◌<◌, ◌⊎◌, List, [], ◌∷◌, ℤ, pos, ◌*ℤ◌, Some, None, Option, slice_index_or, unsigned_abs}
 use Rattle.shots.specs.declared.shot.Shot.{Shot}
 use Rattle.lines.specs.Lines.{any, On}
 use Rattle.lines.specs.Slopes.{Reduced}
@@ -37,11 +36,6 @@ Pulls tariff z [] ps = ps ≡ []
 Pulls tariff z (y ∷ ys) ps =
     ((y.speed ≡ z.speed) × Pulls tariff z ys ps)
     ⊎ ((p : Pull Slope) × (qs : List (Pull Slope)) × (ps ≡ p ∷ qs) × PullAt z y (tariff (pos y.stuff)) p × Pulls tariff z ys qs)
-
-pub record Filled (tariff : ℤ → ℕ × ℕ) (z : Shot) (xs : List Shot) (ps : List (Pull Slope)) (n : ℕ) : Type 0 where
-  pub pulls : Pulls tariff z xs (take n ps)
-  pub few : n ≤ 512
-  pub long : length ps ≡ 512
 
 abbrev pub TurnedAbout : (ℤ → ℕ × ℕ) → List Shot → Shot → Option Line → Type 0
 TurnedAbout tariff xs z (Some m) = Balanced (points tariff xs) (point tariff z) (any m)

@@ -5,6 +5,7 @@ ghost use Rattle.fit.specs.Points.{points};
 ghost use Rattle.fit.specs.Offsets.{IsSlope, pull_at, OffsetOf, OffsetBest};
 
 use crate::fit::Fit;
+use arrayvec::ArrayVec;
 use balance::{Pull, whole_balance_point};
 use racks::{MOST_SHOTS, Rack, is_empty};
 use shots::{PriceRule, Refusal, Shot};
@@ -64,15 +65,11 @@ impl<R: Rack, P: PriceRule> Fit<'_, R, P> {
         requires { 0 < length (R.Rack.held self.now.rack.now) }
         ensures { BalancedOffset incline.a incline.b (points (P.PriceRule.tariff self.now.rule.now) (R.Rack.held self.now.rack.now)) result }
     {
-        let mut pulls = [Pull {
-            key: 0,
-            under: 1,
-            over: 1,
-        }; MOST_SHOTS];
-        for (place, shot) in self.rack.iter().enumerate() {
-            pulls[place] = incline.pull(shot, self.prices_of(shot));
+        let mut pulls: ArrayVec<_, MOST_SHOTS> = ArrayVec::new();
+        for shot in self.rack.iter() {
+            pulls.push(incline.pull(shot, self.prices_of(shot)));
         }
-        match whole_balance_point(&pulls[..self.rack.count()]) {
+        match whole_balance_point(pulls.as_slice()) {
             Some(balance) => balance.lowest,
             None => unreachable(),
         }

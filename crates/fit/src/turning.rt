@@ -1,10 +1,11 @@
 //! The turn of a line about a held shot: of all lines through the shot, the lowest of the cheapest.
-ghost use Rattle.std.specs.Prelude.{◌≡◌, ◌*◌, ◌≤◌, length, MatchOption};
-ghost use Rattle.fit.specs.Turning.{PullFrom, PullAt, Filled, TurnedAbout, TurnedAt, Descends, LowestAt};
+ghost use Rattle.std.specs.Prelude.{◌≡◌, ◌*◌, ◌≤◌, MatchOption};
+ghost use Rattle.fit.specs.Turning.{PullFrom, PullAt, TurnedAbout, TurnedAt, Descends, LowestAt};
 
 use crate::fit::Fit;
+use arrayvec::ArrayVec;
 use balance::{Pull, balance_point};
-use lines::{Line, Slope, reduced};
+use lines::{Line, Slope};
 use racks::{MOST_SHOTS, Rack};
 use shots::{PriceRule, Shot};
 
@@ -26,26 +27,15 @@ impl<R: Rack, P: PriceRule> Fit<'_, R, P> {
     fn turn_about(&self, z: Shot) -> Option<Line>
         ensures { TurnedAbout (P.PriceRule.tariff self.now.rule.now) (R.Rack.held self.now.rack.now) z result }
     {
-        let mut pulls = [blank(); MOST_SHOTS];
-        let count = self.fill(z, &mut pulls);
-        let balance = balance_point(&pulls[..count])?;
-        // a key between two shots fits a line
-        Line::about(z, balance.lowest)
-    }
-
-    // Writes the pulls of all held shots of another speed, and says how many there are.
-    fn fill(&self, z: Shot, pulls: &mut [Pull<Slope>]) -> usize
-        requires { length pulls.old ≡ 512 }
-        ensures { Filled (P.PriceRule.tariff self.now.rule.now) z (R.Rack.held self.now.rack.now) pulls.new result }
-    {
-        let mut count = 0;
+        let mut pulls: ArrayVec<_, MOST_SHOTS> = ArrayVec::new();
         for shot in self.rack.iter() {
             if let Some(pull) = turn_pull(z, shot, self.prices_of(shot)) {
-                pulls[count] = pull;
-                count += 1;
+                pulls.push(pull);
             }
         }
-        count
+        let balance = balance_point(pulls.as_slice())?;
+        // a key between two shots fits a line
+        Line::about(z, balance.lowest)
     }
 }
 
@@ -80,16 +70,4 @@ fn pull_price(weight: u8, price: u8, ahead: u16) -> u32
 {
     // at most 255 × 255 × 65535, which fits
     u32::from(weight) * u32::from(price) * u32::from(ahead)
-}
-
-// What the places hold before they are written.
-fn blank() -> Pull<Slope> {
-    let Some(key) = reduced(0, 1) else {
-        unreachable()
-    };
-    Pull {
-        key,
-        under: 1,
-        over: 1,
-    }
 }

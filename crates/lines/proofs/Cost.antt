@@ -1,9 +1,9 @@
 -- The laws of `cost`: it is the greater of two lines through 0, so it is never below 0, and it is scaled with the miss.
-use Rattle.std.proofs.Common.{◌≡◌, ℕ, ℤ, pos, ◌+ℤ◌, ◌*ℤ◌, neg_ℤ, ◌≤ℤ◌, arith}
+use Rattle.std.proofs.Common.{◌≡◌, ℕ, ℤ, pos, ◌*ℤ◌, neg_ℤ, ◌≤ℤ◌, arith}
 use borrow.Author.Differences.{ints}
 use Rattle.std.proofs.lemmas.Int.{by_lt_z}
 use Rattle.lines.specs.Costs.{cost}
-use Rattle.lines.proofs.Ring.{lin, ring, flat, poly, from, ◌&◌}
+use Rattle.lines.proofs.Ring.{lin, ring, flat, poly, from}
 use Rattle.lines.proofs.Order.{mul_nn, prod, weaken}
 
 pub cost_up : (u v : ℕ) (e : ℤ) → pos 0 ≤ℤ e → cost u v e ≡ pos u *ℤ e

@@ -1,6 +1,5 @@
 -- Sums over lists of whole numbers: they add, scale and keep an order.
 use Rattle.std.proofs.Common.{◌≡◌, List, [], ◌∷◌, ℤ, pos, ◌+ℤ◌, ◌*ℤ◌, ◌≤ℤ◌, refl}
-use Rattle.std.specs.List.{AllByRecursion as All}
 use Rattle.lines.specs.Sums.{sum_z}
 use Rattle.lines.proofs.Ring.{lin, ring, poly}
 

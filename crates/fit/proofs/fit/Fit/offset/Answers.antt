@@ -1,5 +1,5 @@
 -- `offset`: the balanced offset is the lowest of the cheapest.
-use Rattle.std.proofs.Common.{sym, ap, subst, subst₂, w32, SFits, rules}
+use Rattle.std.proofs.Common.{sym, subst, subst₂, w32, SFits, rules}
 use Rattle.std.proofs.lemmas.Int.{to_z-of_z}
 use Rattle.theory.specs.Offsets.{BalancedOffset}
 use Rattle.fit.specs.Points.{points}
