@@ -20,5 +20,5 @@ fn is_fair<K>(pull: &Pull<K>) -> bool
 pub(crate) fn are_usable<K>(pulls: &[Pull<K>]) -> bool
     ensures { Decides result (Usable pulls.now) }
 {
-    (1..=MOST_PULLS).contains(&pulls.len()) && pulls.iter().all(|pull| is_fair(pull))
+    (1..=MOST_PULLS).contains(&pulls.len()) && pulls.iter().all(is_fair)
 }

@@ -1,7 +1,7 @@
 //! A pull on the balance point.
 
 /// A key and the two prices by which it pulls.
-#[derive(Clone, Copy, Default)]
+#[derive(Clone, Copy, PartialEq, Eq, Debug, Default)]
 pub struct Pull<K> {
     /// Where it pulls to.
     pub key: K,

@@ -6,9 +6,9 @@ ghost use Rattle.fields.specs.Digits.{most_of};
 #[derive(Clone, Copy, PartialEq, Eq, Debug)]
 pub enum Digits {
     /// At most six digits: -999999 to 999999.
-    Six,
+    Six = 6,
     /// At most eight digits: -99999999 to 99999999.
-    Eight,
+    Eight = 8,
 }
 
 impl Digits {
@@ -16,9 +16,6 @@ impl Digits {
     pub fn most(self) -> usize
         ensures { result ≡ most_of self }
     {
-        match self {
-            Digits::Six => 6,
-            Digits::Eight => 8,
-        }
+        self as usize
     }
 }

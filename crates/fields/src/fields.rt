@@ -19,6 +19,7 @@ pub fn field(line: &[u8], k: usize) -> Option<&[u8]>
     ensures bytes { option_map (λ x. x.now) result ≡ slice_get (parts line.now) k }
     ensures lent { IfSome result (PartOf line.entry) }
 {
+    // cut by hand: what `split` yields has the right bytes, but no contract says where in the line it lies
     let mut start = 0;
     for _ in 0..k {
         start += first_tab(&line[start..])? + 1;

@@ -6,8 +6,7 @@ ghost use Rattle.fields.specs.Numbers.{Natural, Numeral, Within, WritesBack, sig
 
 use crate::digits::Digits;
 
-// The number that digits write, with no zero in front of others. Not by `parse`, which also takes a plus
-// and zeros in front.
+// The number that digits write, with no zero in front of others.
 fn natural(ds: &[u8], digits: Digits) -> Option<u32>
     ensures value { SomeIff result (Natural (most_of digits) ds.now) (value_of ds.now) }
     ensures small { IfSome result (λ n. n < 10 ^ most_of digits) }
@@ -15,6 +14,7 @@ fn natural(ds: &[u8], digits: Digits) -> Option<u32>
     if matches!(ds, [] | [b'0', _, ..]) || ds.len() > digits.most() {
         return None;
     }
+    // not by `parse`, which also takes a plus and zeros in front
     let mut n = 0;
     for b in ds {
         n = n * 10 + char::from(*b).to_digit(10)?;

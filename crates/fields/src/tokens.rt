@@ -8,7 +8,7 @@ use crate::fields::field;
 use crate::numbers::number;
 
 /// A field, by what it is. Each case holds the field's own bytes, which are part of the line.
-#[derive(Clone, Copy)]
+#[derive(Clone, Copy, PartialEq, Eq, Debug)]
 pub enum Token<'a> {
     /// Bytes that write no number.
     Word(&'a [u8]),

@@ -12,6 +12,7 @@ fn put(out: &mut [u8], at: usize, text: &[u8]) -> Option<usize>
     if end > out.len() {
         return None;
     }
+    // not by `get_mut`, after which no contract says where in `out` the part lies
     out[at..end].copy_from_slice(text);
     Some(end)
 }

@@ -1,5 +1,5 @@
 -- Where the pulls of shots balance is the balanced offset of their points, and it is the lowest of the cheapest.
-use Rattle.std.proofs.Common.{◌≡◌, ℕ, zero, suc, ◌*◌, ◌<◌, ◌≤◌, true, List, [], ◌∷◌, map, length, get_or, ℤ, pos, sum_by, sym, refl, ap, ◌∙◌, subst, mul-le-mul, arith}
+use Rattle.std.proofs.Common.{◌≡◌, ℕ, zero, suc, ◌*◌, ◌<◌, ◌≤◌, true, Some, None, Option, IsSome, List, [], ◌∷◌, map, length, get_or, ℤ, pos, sum_by, sym, refl, ap, ◌∙◌, subst, mul-le-mul, arith, rules}
 use lib.Signed.{le_z}
 use Rattle.std.proofs.lemmas.List.{length-map}
 use Rattle.std.proofs.lemmas.Int.{ints}
@@ -9,7 +9,9 @@ use Rattle.shots.specs.Prices.{Fair as FairRule}
 use Rattle.shots.specs.declared.shot.Shot.{Shot}
 use Rattle.lines.specs.Sums.{sum_z}
 use Rattle.lines.proofs.Ring.{lin}
-use Rattle.balance.specs.Balances.{Fair, Usable, above, upto, holds, Point}
+use Rattle.balance.specs.Balances.{Fair, Usable, above, upto, holds, Point, Answer}
+use Rattle.balance.specs.declared.balance.Balance.{Balance}
+use Rattle.balance.specs.declared.pull.Pull.{Pull}
 use Rattle.theory.specs.Points.{Weighty}
 use Rattle.theory.specs.Offsets.{offset, u_above, v_up_to, HoldsAt, BalancedOffset}
 use Rattle.theory.proofs.Offsets.{balanced_lowest_cheapest}
@@ -104,3 +106,8 @@ module _ (tariff : ℤ → ℕ × ℕ) (a b : ℤ) where
   lowest_best fair xs c s w k d h =
       let t = balanced_lowest_cheapest a b c (points tariff xs) s.least w k d h in
       (t.0, λ g. t.1 (weighty fair xs) g)
+
+-- pulls that can be balanced have a balance point
+pub balances : {ps : List (Pull ℤ)} (r : Option (Balance ℤ)) → Answer le_z ps r → Usable ps → IsSome r
+balances (Some b) a u = search rules
+balances None a u = absurd (a u)

@@ -7,7 +7,7 @@ ghost use Rattle.fit.specs.Offsets.{IsSlope, pull_at, OffsetOf, OffsetBest};
 use crate::fit::Fit;
 use arrayvec::ArrayVec;
 use balance::{Pull, whole_balance_point};
-use racks::{MOST_SHOTS, Rack, is_empty};
+use racks::{MOST_SHOTS, Rack};
 use shots::{PriceRule, Refusal, Shot};
 
 // The slope B/A of a line that is to be laid; it need not be in lowest terms.
@@ -35,7 +35,7 @@ impl Incline {
     {
         let (late, early) = prices;
         Pull {
-            // at most 96,000,000 whatever the sign
+            // at most 96,000,000 whatever the sign; a line's own sum stops at an A of 3999
             key: self.a * i32::from(shot.lead) - self.b * i32::from(shot.speed),
             under: u32::from(shot.weight) * u32::from(late),
             over: u32::from(shot.weight) * u32::from(early),
@@ -54,7 +54,7 @@ impl<R: Rack, P: PriceRule> Fit<'_, R, P> {
         ensures cheapest { OffsetBest (P.PriceRule.tariff self.now.rule.now) a b (R.Rack.held self.now.rack.now) result }
     {
         let incline = Incline::new(a, b)?;
-        if is_empty(self.rack) {
+        if self.rack.is_empty() {
             return Err(Refusal::Empty);
         }
         Ok(self.balanced(incline))
@@ -69,9 +69,6 @@ impl<R: Rack, P: PriceRule> Fit<'_, R, P> {
         for shot in self.rack.iter() {
             pulls.push(incline.pull(shot, self.prices_of(shot)));
         }
-        match whole_balance_point(pulls.as_slice()) {
-            Some(balance) => balance.lowest,
-            None => unreachable(),
-        }
+        whole_balance_point(pulls.as_slice()).unwrap().lowest
     }
 }

@@ -45,6 +45,7 @@ impl<R: Rack, P: PriceRule> Fit<'_, R, P> {
     pub(crate) fn rate_about<W: Way>(&self, line: Line, z: Shot) -> i64
         ensures { result ≡ rate_of W.Way.part (P.PriceRule.tariff self.now.rule.now) line (R.Rack.held self.now.rack.now) z }
     {
+        // a loop: the library proves no bound for a `sum` of signed numbers
         let mut sum = 0;
         for shot in self.rack.iter() {
             sum += lift_price(line, shot, self.prices_of(shot), W::lift(z, shot));

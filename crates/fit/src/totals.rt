@@ -22,7 +22,7 @@ impl<R: Rack, P: PriceRule> Fit<'_, R, P> {
         ensures most { Bounded line (R.Rack.held self.now.rack.now) result }
         ensures even { Even (P.PriceRule.tariff self.now.rule.now) line (R.Rack.held self.now.rack.now) result }
     {
-        // a loop: of a `sum` of signed numbers no proof knows that it fits
+        // a loop: the library proves no bound for a `sum` of signed numbers
         let mut sum = 0;
         for shot in self.rack.iter() {
             sum += line.share(shot, self.prices_of(shot));

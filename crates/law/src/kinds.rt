@@ -58,6 +58,7 @@ pub enum Reply {
     /// An add or a strike was accepted.
     Done,
     /// A pivot answered with a line and its total.
+    // word and line apart, and no `Pivoted`: the law goes by cases of the word
     Told(Word, PricedLine),
     /// A mount answered with an offset.
     Mounted(i32),
@@ -66,6 +67,7 @@ pub enum Reply {
     /// A pass with this line was issued.
     Issued(Line),
     /// The call was refused, and changed nothing.
+    // a case, and no `Result` around the others: a moment has one answer, with one text
     Refused(Refusal),
 }
 

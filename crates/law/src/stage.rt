@@ -2,7 +2,7 @@
 use lines::Line;
 
 /// How far a sheet has come.
-#[derive(Clone, Copy)]
+#[derive(Clone, Copy, PartialEq, Eq, Debug)]
 pub enum Stage {
     /// No line is laid.
     Bare,

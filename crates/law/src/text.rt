@@ -7,7 +7,7 @@ use std::fmt;
 
 impl Word {
     /// The word in print.
-    // a `&str`, as of the other words below, so that a caller has it without memory to print into
+    // a `&str`, which the word of a reply hands on
     pub fn text(self) -> &'static str
         ensures { result.now ≡ word_of self }
     {
@@ -50,18 +50,16 @@ impl fmt::Display for Reply {
     ghost output = { λ reply. Some (reply_text reply) };
 
     fn fmt<W: fmt::Write>(&self, f: &mut fmt::Formatter<W>) -> fmt::Result {
+        let word = self.word();
         match *self {
-            Reply::Done => f.write_str("ok"),
-            Reply::Told(word, priced) => {
-                let word = word.text();
-                write!(f, "{word}\t{priced}")
-            }
-            Reply::Mounted(offset) => write!(f, "mount\t{offset}"),
-            Reply::Slipped(rows) => write!(f, "slip\t{rows}"),
-            Reply::Issued(line) => write!(f, "pass\t{line}"),
+            Reply::Done => f.write_str(word),
+            Reply::Told(_, priced) => write!(f, "{word}\t{priced}"),
+            Reply::Mounted(offset) => write!(f, "{word}\t{offset}"),
+            Reply::Slipped(rows) => write!(f, "{word}\t{rows}"),
+            Reply::Issued(line) => write!(f, "{word}\t{line}"),
             Reply::Refused(refusal) => {
                 let number = u8::from(refusal);
-                write!(f, "no\t{number}")
+                write!(f, "{word}\t{number}")
             }
         }
     }

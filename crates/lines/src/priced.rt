@@ -14,6 +14,7 @@ pub struct PricedLine {
 }
 
 impl PricedLine {
+    // no `PartialOrd`: two lines of one price are different lines
     /// Whether this total over its A is less than the other's, for any two totals.
     pub fn is_cheaper_than(self, other: PricedLine) -> bool
         ensures { Decides result (Cheaper self other) }

@@ -3,7 +3,6 @@
 //! lent rack is a rack, the iterator over the shots of a rack, and whether a rack holds no shot.
 #![tactic(auto)]
 
-mod empty;
 mod iter;
 mod lent;
 mod mirror;
@@ -12,7 +11,6 @@ mod place;
 mod rack;
 mod record_rack;
 
-pub use empty::is_empty;
 pub use iter::Iter;
 pub use mirror::Mirror;
 pub use packed_rack::PackedRack;

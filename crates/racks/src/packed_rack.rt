@@ -12,8 +12,8 @@ use shots::{Entry, Refusal, Shot};
 
 /// A rack in lent bytes, six to a shot. It has room for one shot in each six, at most 512; no call
 /// writes a byte at or past the images that it leaves.
-// not one type with the rack in records: its memory is bytes of any length, and what each byte holds is
-// promised, so that a trait of cells would say every clause on memory twice
+// not one type with the rack in records: what each byte holds is promised here, and what each record holds
+// there, so that a trait over both kinds of memory would say each such clause once more
 #[derive(Drop)]
 pub struct PackedRack<'a> {
     bytes: &'a mut [u8],
@@ -93,10 +93,7 @@ fn shot_in(six: &[u8]) -> Shot
     ensures { result ≡ shot_of_bytes six.now }
 {
     match six {
-        [a, b, c, d, e, f] => match Shot::from_image([*a, *b, *c, *d, *e, *f]) {
-            Some(shot) => shot,
-            None => unreachable(),
-        },
+        [a, b, c, d, e, f] => Shot::from_image([*a, *b, *c, *d, *e, *f]).unwrap(),
         _ => unreachable(),
     }
 }

@@ -1,5 +1,5 @@
 //! What a rack is.
-ghost use Rattle.std.specs.Prelude.{◌≡◌, ℕ, ◌≤◌, List, length};
+ghost use Rattle.std.specs.Prelude.{◌≡◌, ℕ, ◌≤◌, List, [], length, Decides};
 ghost use Rattle.racks.specs.Racks.{Read, Added, Struck};
 ghost use Rattle.shots.specs.declared.shot.Shot.{Shot};
 
@@ -11,7 +11,7 @@ pub const MOST_SHOTS: usize = 512;
 
 /// A rack: shots in the order in which they were added, at places counted from 0.
 ///
-/// Whatever answers as these four calls say is a rack. It holds at most its capacity, which is 512
+/// Whatever answers as the four calls say that it writes itself is a rack. It holds at most its capacity, which is 512
 /// or less and never changes. Every number may be passed; a call that refuses changes nothing.
 pub trait Rack {
     // The shots, place by place.
@@ -41,6 +41,13 @@ pub trait Rack {
     fn strike(&mut self, place: i32) -> Result<(), Refusal>
         ensures struck { Struck (held self.old) place result (held self.new) }
         ensures room { capacity self.new ≡ capacity self.old };
+
+    /// Whether no shot is held.
+    final fn is_empty(&self) -> bool
+        ensures { Decides result (held self.now ≡ []) }
+    {
+        self.count() == 0
+    }
 
     /// The shots in order of place, from place 0 on.
     final fn iter(&self) -> Iter<'_, Self>

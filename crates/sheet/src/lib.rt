@@ -15,6 +15,6 @@ pub use law::{
     Call, Moment, Reply, Stage, Word, each_moment_is_kept, every_turn_carries_a_life_on,
     one_line_is_at_hand,
 };
-pub use life::{Lived, live, perform};
+pub use life::{Lived, live};
 pub use pass::Pass;
 pub use sheet::Sheet;

@@ -11,7 +11,7 @@ ghost use Rattle.sheet.specs.Sheets.{sees, reply_of, slip_reply};
 use crate::sheet::Sheet;
 use law::{Call, Moment, Pivoted, Reply};
 use lines::Line;
-use racks::{MOST_SHOTS, Rack, is_empty};
+use racks::{MOST_SHOTS, Rack};
 use shots::{PriceRule, Refusal};
 use slips::Row;
 
@@ -40,7 +40,7 @@ pub fn live<R: Rack, P: PriceRule>(
     ensures room { R.Rack.capacity result.rack ≡ R.Rack.capacity rack }
     ensures rule { result.rule ≡ rule }
 {
-    if !is_empty(&rack) || moments.len() < calls.len() {
+    if !rack.is_empty() || moments.len() < calls.len() {
         return Lived {
             count: None,
             rack,
@@ -48,7 +48,7 @@ pub fn live<R: Rack, P: PriceRule>(
         };
     }
     let mut sheet = Sheet::begin(rack, rule);
-    run(&mut sheet, calls, &mut moments[..calls.len()]);
+    sheet.run(calls, &mut moments[..calls.len()]);
     let (rack, rule) = sheet.end();
     Lived {
         count: Some(calls.len()),
@@ -57,81 +57,83 @@ pub fn live<R: Rack, P: PriceRule>(
     }
 }
 
-// Makes each call in turn on a sheet, whatever life led to it.
-fn run<R: Rack, P: PriceRule>(sheet: &mut Sheet<R, P>, calls: &[Call], moments: &mut [Moment])
-    requires { length moments.old ≡ length calls.now }
-    ensures called { map (λ m. m.call) moments.new ≡ calls.now }
-    ensures life { (past : List Then) → Life past (sees R.Rack.held R.Rack.capacity P.PriceRule.tariff sheet.old) → Life (reverse moments.new ++ past) (sees R.Rack.held R.Rack.capacity P.PriceRule.tariff sheet.new) }
-    ensures room { R.Rack.capacity sheet.new.rack ≡ R.Rack.capacity sheet.old.rack }
-    ensures rule { sheet.new.rule ≡ sheet.old.rule }
-{
-    // by index: of what `iter_mut` yields in a `zip` no proof knows where it lies in the moments
-    for (i, call) in calls.iter().enumerate() {
-        moments[i] = perform(sheet, *call);
+impl<R: Rack, P: PriceRule> Sheet<R, P> {
+    // Makes each call in turn on a sheet, whatever life led to it.
+    fn run(&mut self, calls: &[Call], moments: &mut [Moment])
+        requires { length moments.old ≡ length calls.now }
+        ensures called { map (λ m. m.call) moments.new ≡ calls.now }
+        ensures life { (past : List Then) → Life past (sees R.Rack.held R.Rack.capacity P.PriceRule.tariff self.old) → Life (reverse moments.new ++ past) (sees R.Rack.held R.Rack.capacity P.PriceRule.tariff self.new) }
+        ensures room { R.Rack.capacity self.new.rack ≡ R.Rack.capacity self.old.rack }
+        ensures rule { self.new.rule ≡ self.old.rule }
+    {
+        // by index: after a `zip` over `iter_mut` no contract says what became of the moments
+        for (i, call) in calls.iter().enumerate() {
+            moments[i] = self.perform(*call);
+        }
     }
-}
 
-/// Makes one call, asks issue, and tells both.
-pub fn perform<R: Rack, P: PriceRule>(sheet: &mut Sheet<R, P>, call: Call) -> Moment
-    ensures call { result.call ≡ call }
-    ensures called { Called call result.reply (sees R.Rack.held R.Rack.capacity P.PriceRule.tariff sheet.old) (sees R.Rack.held R.Rack.capacity P.PriceRule.tariff sheet.new) }
-    ensures pass { result.pass ≡ in_force sheet.new.inner.stage }
-    ensures life { (past : List Then) → Life past (sees R.Rack.held R.Rack.capacity P.PriceRule.tariff sheet.old) → Life (result ∷ past) (sees R.Rack.held R.Rack.capacity P.PriceRule.tariff sheet.new) }
-    ensures rule { sheet.new.rule ≡ sheet.old.rule }
-{
-    let reply = make(sheet, call);
-    let pass = line_in_force(sheet);
-    Moment { call, reply, pass }
-}
+    /// Makes one call, asks issue, and tells both.
+    pub fn perform(&mut self, call: Call) -> Moment
+        ensures call { result.call ≡ call }
+        ensures called { Called call result.reply (sees R.Rack.held R.Rack.capacity P.PriceRule.tariff self.old) (sees R.Rack.held R.Rack.capacity P.PriceRule.tariff self.new) }
+        ensures pass { result.pass ≡ in_force self.new.inner.stage }
+        ensures life { (past : List Then) → Life past (sees R.Rack.held R.Rack.capacity P.PriceRule.tariff self.old) → Life (result ∷ past) (sees R.Rack.held R.Rack.capacity P.PriceRule.tariff self.new) }
+        ensures rule { self.new.rule ≡ self.old.rule }
+    {
+        let reply = self.make(call);
+        let pass = self.line_in_force();
+        Moment { call, reply, pass }
+    }
 
-// Makes one call, and tells the answer or the refusal.
-fn make<R: Rack, P: PriceRule>(sheet: &mut Sheet<R, P>, call: Call) -> Reply
-    ensures called { Called call result (sees R.Rack.held R.Rack.capacity P.PriceRule.tariff sheet.old) (sees R.Rack.held R.Rack.capacity P.PriceRule.tariff sheet.new) }
-    ensures rule { sheet.new.rule ≡ sheet.old.rule }
-{
-    answer(sheet, call).unwrap_or_else(Reply::Refused)
-}
+    // Makes one call, and tells the answer or the refusal.
+    fn make(&mut self, call: Call) -> Reply
+        ensures called { Called call result (sees R.Rack.held R.Rack.capacity P.PriceRule.tariff self.old) (sees R.Rack.held R.Rack.capacity P.PriceRule.tariff self.new) }
+        ensures rule { self.new.rule ≡ self.old.rule }
+    {
+        self.answer(call).unwrap_or_else(Reply::Refused)
+    }
 
-// Makes one call.
-fn answer<R: Rack, P: PriceRule>(sheet: &mut Sheet<R, P>, call: Call) -> Result<Reply, Refusal>
-    ensures called { Called call (reply_of result) (sees R.Rack.held R.Rack.capacity P.PriceRule.tariff sheet.old) (sees R.Rack.held R.Rack.capacity P.PriceRule.tariff sheet.new) }
-    ensures rule { sheet.new.rule ≡ sheet.old.rule }
-{
-    Ok(match call {
-        Call::Add(entry) => {
-            sheet.add(entry)?;
-            Reply::Done
-        }
-        Call::Strike { place } => {
-            sheet.strike(place)?;
-            Reply::Done
-        }
-        Call::Pivot => {
-            let Pivoted { word, priced } = sheet.pivot()?;
-            Reply::Told(word, priced)
-        }
-        Call::Mount { a, b } => Reply::Mounted(sheet.mount(a, b)?),
-        Call::Slip { rows } => Reply::Slipped(rows_of_slip(sheet, rows)?),
-        Call::Issue => Reply::Issued(sheet.issue()?.give_up()),
-    })
-}
+    // Makes one call.
+    fn answer(&mut self, call: Call) -> Result<Reply, Refusal>
+        ensures called { Called call (reply_of result) (sees R.Rack.held R.Rack.capacity P.PriceRule.tariff self.old) (sees R.Rack.held R.Rack.capacity P.PriceRule.tariff self.new) }
+        ensures rule { self.new.rule ≡ self.old.rule }
+    {
+        Ok(match call {
+            Call::Add(entry) => {
+                self.add(entry)?;
+                Reply::Done
+            }
+            Call::Strike { place } => {
+                self.strike(place)?;
+                Reply::Done
+            }
+            Call::Pivot => {
+                let Pivoted { word, priced } = self.pivot()?;
+                Reply::Told(word, priced)
+            }
+            Call::Mount { a, b } => Reply::Mounted(self.mount(a, b)?),
+            Call::Slip { rows } => Reply::Slipped(self.rows_of_slip(rows)?),
+            Call::Issue => Reply::Issued(self.issue()?.give_up()),
+        })
+    }
 
-// The line for which issue answers a pass now.
-fn line_in_force<R: Rack, P: PriceRule>(sheet: &Sheet<R, P>) -> Option<Line>
-    ensures { result ≡ in_force sheet.now.inner.stage }
-{
-    Some(sheet.issue().ok()?.give_up())
-}
+    // The line for which issue answers a pass now.
+    fn line_in_force(&self) -> Option<Line>
+        ensures { result ≡ in_force self.now.inner.stage }
+    {
+        Some(self.issue().ok()?.give_up())
+    }
 
-// How many rows a slip writes into a table of so many. No rack holds more than 512 shots, so a table of
-// 512 rows stands in for any longer one.
-fn rows_of_slip<R: Rack, P: PriceRule>(sheet: &Sheet<R, P>, rows: usize) -> Result<usize, Refusal>
-    ensures { Called (Slip rows) (slip_reply result) (sees R.Rack.held R.Rack.capacity P.PriceRule.tariff sheet.now) (sees R.Rack.held R.Rack.capacity P.PriceRule.tariff sheet.now) }
-{
-    let mut table = [Row {
-        place: 0,
-        rise: 0,
-        fall: 0,
-    }; MOST_SHOTS];
-    sheet.slip(&mut table[..rows.min(MOST_SHOTS)])
+    // How many rows a slip writes into a table of so many. No rack holds more than 512 shots, so a table of
+    // 512 rows stands in for any longer one.
+    fn rows_of_slip(&self, rows: usize) -> Result<usize, Refusal>
+        ensures { Called (Slip rows) (slip_reply result) (sees R.Rack.held R.Rack.capacity P.PriceRule.tariff self.now) (sees R.Rack.held R.Rack.capacity P.PriceRule.tariff self.now) }
+    {
+        let mut table = [Row {
+            place: 0,
+            rise: 0,
+            fall: 0,
+        }; MOST_SHOTS];
+        self.slip(&mut table[..rows.min(MOST_SHOTS)])
+    }
 }

@@ -23,6 +23,7 @@ use slips::{Row, write_rows};
 /// A sheet: a rack of shots, a price rule, and how far the line for them has come. It is bare, trying
 /// a line, or has a line in force. While it lives only its calls reach the rack, and nothing sets the
 /// rule.
+// no model: a view that keeps the very rack and rule, which `end` gives back, is these fields themselves
 #[derive(Drop)]
 pub struct Sheet<R, P> {
     pub(crate) rack: R,

@@ -1,4 +1,4 @@
-//! What a pivot asks of the held shots.
+//! What the calls ask of the shots held now.
 ghost use Rattle.std.specs.Prelude.{◌≡◌, pos, Some};
 ghost use Rattle.fit.specs.Testing.{First};
 ghost use Rattle.fit.specs.Totals.{total_of};

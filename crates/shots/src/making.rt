@@ -18,6 +18,7 @@ impl TryFrom<Entry> for Shot {
             weight,
             stuff,
         } = entry;
+        // compared by hand: through `contains` the check finds neither the refusals nor the ranges
         if speed < 1 || speed > 4000 {
             return Err(Refusal::Speed);
         }

@@ -51,12 +51,12 @@ impl From<Refusal> for u8 {
     }
 }
 
-impl fmt::Display for Refusal {
-    ghost output = { λ refusal. Some (word_of refusal) };
-
-    /// Writes the word that stands for this refusal in print.
-    fn fmt<W: fmt::Write>(&self, f: &mut fmt::Formatter<W>) -> fmt::Result {
-        f.write_str(match self {
+impl Refusal {
+    /// The word that stands for this refusal in print.
+    pub fn word(self) -> &'static str
+        ensures { result.now ≡ word_of self }
+    {
+        match self {
             Refusal::Speed => "speed",
             Refusal::Lead => "lead",
             Refusal::Weight => "weight",
@@ -73,7 +73,16 @@ impl fmt::Display for Refusal {
             Refusal::Valve => "valve",
             Refusal::Unreadable => "unreadable",
             Refusal::Paper => "paper",
-        })
+        }
+    }
+}
+
+/// The word of the refusal.
+impl fmt::Display for Refusal {
+    ghost output = { λ refusal. Some (word_of refusal) };
+
+    fn fmt<W: fmt::Write>(&self, f: &mut fmt::Formatter<W>) -> fmt::Result {
+        f.write_str(self.word())
     }
 }
 

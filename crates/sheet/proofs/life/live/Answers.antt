@@ -11,7 +11,7 @@ returns g c =
     let ended = c.end-rack.ensures in
     let long = c.if-moments-calls.false in
     let empty = c.is_empty.ensures.0 c.if-not-is_empty.false in
-    let v = sees g.R.Rack.held g.R.Rack.capacity g.P.PriceRule.tariff c.run.new.sheet in
+    let v = sees g.R.Rack.held g.R.Rack.capacity g.P.PriceRule.tariff c.run.new.self in
     let rule = ran.rule ∙ begun.rule in
     let room = ran.room ∙ ap g.R.Rack.capacity begun.rack in
     record {

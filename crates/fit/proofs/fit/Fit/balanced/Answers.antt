@@ -3,12 +3,12 @@ use Rattle.std.proofs.Common.{length, map, sym, ap, ◌∙◌, subst, arith, rul
 use lib.Signed.{le_z}
 use Rattle.std.proofs.lemmas.List.{length-map}
 use Rattle.std.proofs.lemmas.Int.{to_z-of_z}
-use Rattle.balance.specs.Balances.{Usable, Point}
+use Rattle.balance.specs.Balances.{Usable, Point, Answer}
 use Rattle.racks.proofs.Going.{turn, ended}
 use Rattle.theory.specs.Offsets.{BalancedOffset}
 use Rattle.fit.specs.Offsets.{offset_pull}
 use Rattle.fit.specs.Points.{points}
-use Rattle.fit.proofs.Mounted.{mounted, usable}
+use Rattle.fit.proofs.Mounted.{mounted, usable, balances}
 use Rattle.fit.proofs.fit.Fit.balanced.Goals as goal
 
 pub push-requires : goal.push-requires
@@ -19,8 +19,8 @@ push-requires g c =
     let n = ap length c.loop-shot.invariant ∙ length-map c.loop-shot.yielded pull in
     (search rules, omega (arith, t.inside, n))
 
-pub unreachable-requires : goal.unreachable-requires
-unreachable-requires g c =
+pub unwrap-requires : goal.unwrap-requires
+unwrap-requires g c =
     let tariff = g.P.PriceRule.tariff c.args.self.now.rule.now in
     let held = g.R.Rack.held c.args.self.now.rack.now in
     let a = c.args.incline.a in
@@ -28,7 +28,7 @@ unreachable-requires g c =
     let all = ended held _ _ _ _ _ (cc) c.loop-shot.yielded_by c.in-None.is c.next.ensures.steps in
     let e = c.as_slice.ensures.value ∙ c.loop-shot.invariant ∙ ap (map (offset_pull tariff a b)) all in
     let few = g.R.Rack.bounded c.args.self.now.rack.now in
-    c.in-None-whole_balance_point.ensures.point (subst Usable (sym e) (usable tariff a b (g.P.PriceRule.fair c.args.self.now.rule.now) held c.requires (omega arith)))
+    balances c.whole_balance_point.result c.whole_balance_point.ensures.point (subst Usable (sym e) (usable tariff a b (g.P.PriceRule.fair c.args.self.now.rule.now) held c.requires (omega arith)))
 
 pub returns : goal.returns
 returns g c =
@@ -38,6 +38,7 @@ returns g c =
     let b = c.args.incline.b in
     let all = ended held _ _ _ _ _ (cc) c.loop-shot.yielded_by c.in-None.is c.next.ensures.steps in
     let e = c.as_slice.ensures.value ∙ c.loop-shot.invariant ∙ ap (map (offset_pull tariff a b)) all in
-    let r = c.in-Some-whole_balance_point.balance.lowest in
+    let r = c.unwrap.result.lowest in
     let f : SFits w32 r = search rules in
-    subst (BalancedOffset a b (points tariff held)) (sym (to_z-of_z w32 r f)) (mounted tariff a b held r (subst (λ ps. Point le_z ps r) e c.in-Some-whole_balance_point.ensures.point.1))
+    let point = subst (Answer le_z c.as_slice.result.now) c.unwrap.ensures c.whole_balance_point.ensures.point in
+    subst (BalancedOffset a b (points tariff held)) (sym (to_z-of_z w32 r f)) (mounted tariff a b held r (subst (λ ps. Point le_z ps r) e point.1))

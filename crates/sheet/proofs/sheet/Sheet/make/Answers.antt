@@ -4,7 +4,7 @@ use Rattle.shots.specs.declared.refusal.Refusal.{Refusal}
 use Rattle.law.specs.declared.kinds.Reply.{Reply}
 use Rattle.law.specs.declared.kinds.Reply.TheVariants.{Refused}
 use Rattle.sheet.specs.Sheets.{reply_of}
-use Rattle.sheet.proofs.life.make.Goals as goal
+use Rattle.sheet.proofs.sheet.Sheet.make.Goals as goal
 
 replied : (r : Result Reply Refusal) (x : Reply) {Q : Refusal → Type 0} → ((e : Refusal) → Q e → x ≡ Refused e) → MatchResult r (λ y. x ≡ y) Q → x ≡ reply_of r
 replied (Ok y) x f h = h
