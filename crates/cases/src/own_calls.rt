@@ -25,11 +25,7 @@ pub fn by_hand<R: Rack + Drop, P: PriceRule + Drop>(
     let _ = sheet.pivot();
     let _ = sheet.strike(place);
     let _ = sheet.mount(speed, lead);
-    let mut table = [Row {
-        place: 0,
-        rise: 0,
-        fall: 0,
-    }; 5];
+    let mut table = [Row::default(); 5];
     let _ = sheet.slip(&mut table);
     sheet.issue()
 }

@@ -3,14 +3,14 @@ use crate::{Line, PricedLine, Side, Slope, gcd, reduced};
 use shots::{Entry, Shot};
 use std::test::Fail;
 
-/// The three numbers of a line; three zeros, which make none, where there is none.
-fn numbers(line: Option<Line>) -> (i32, i32, i32) {
-    line.map_or((0, 0, 0), |line| (line.a, line.b, line.c))
+/// The three numbers of a line.
+fn numbers(line: Option<Line>) -> Option<(i32, i32, i32)> {
+    line.map(|line| (line.a, line.b, line.c))
 }
 
-/// The two terms of a slope; two zeros, which make none, where there is none.
-fn terms(slope: Option<Slope>) -> (i32, i32) {
-    slope.map_or((0, 0), |slope| (slope.rise, slope.run))
+/// The two terms of a slope.
+fn terms(slope: Option<Slope>) -> Option<(i32, i32)> {
+    slope.map(|slope| (slope.rise, slope.run))
 }
 
 /// A shot that counts twice.
@@ -33,10 +33,10 @@ fn divisors(rt: HostRuntime) {
     assert_eq!(rt; gcd(12, 18), 6);
     assert_eq!(rt; gcd(0, 7), 7);
     assert_eq!(rt; gcd(0, 0), 0);
-    assert_eq!(rt; terms(reduced(-4, 6)), (-2, 3));
-    assert_eq!(rt; terms(reduced(i32::MIN, 2)), (-1_073_741_824, 1));
-    assert_eq!(rt; terms(reduced(3, 0)), (0, 0));
-    assert_eq!(rt; terms(reduced(3, i32::MIN)), (0, 0));
+    assert_eq!(rt; terms(reduced(-4, 6)), Some((-2, 3)));
+    assert_eq!(rt; terms(reduced(i32::MIN, 2)), Some((-1_073_741_824, 1)));
+    assert_eq!(rt; terms(reduced(3, 0)), None);
+    assert_eq!(rt; terms(reduced(3, i32::MIN)), None);
 }
 
 #[test]
@@ -45,36 +45,36 @@ fn lines_through_two_shots(rt: HostRuntime) -> Result<(), Fail> {
     let q = shot(1000, 0)?;
     let r = shot(3000, 0)?;
     let s = shot(1000, 7)?;
-    assert_eq!(rt; numbers(Line::through(p, q)), (25, -1, 1000));
-    assert_eq!(rt; numbers(Line::through(q, p)), (25, -1, 1000));
-    assert_eq!(rt; numbers(Line::through(q, r)), (1, 0, 0));
-    assert_eq!(rt; numbers(Line::through(q, s)), (0, 0, 0));
-    assert_eq!(rt; numbers(Line::through(q, q)), (0, 0, 0));
+    assert_eq!(rt; numbers(Line::through(p, q)), Some((25, -1, 1000)));
+    assert_eq!(rt; numbers(Line::through(q, p)), Some((25, -1, 1000)));
+    assert_eq!(rt; numbers(Line::through(q, r)), Some((1, 0, 0)));
+    assert_eq!(rt; numbers(Line::through(q, s)), None);
+    assert_eq!(rt; numbers(Line::through(q, q)), None);
     Ok(())
 }
 
 #[test]
 fn numbers_that_make_a_line(rt: HostRuntime) {
-    assert_eq!(rt; numbers(Line::new(1, 0, 0)), (1, 0, 0));
-    let low = (1, -16_000, -96_000_000);
+    assert_eq!(rt; numbers(Line::new(1, 0, 0)), Some((1, 0, 0)));
+    let low = Some((1, -16_000, -96_000_000));
     assert_eq!(rt; numbers(Line::new(1, -16_000, -96_000_000)), low);
-    let high = (3999, 16_000, 96_000_000);
+    let high = Some((3999, 16_000, 96_000_000));
     assert_eq!(rt; numbers(Line::new(3999, 16_000, 96_000_000)), high);
 }
 
 #[test]
 fn numbers_that_make_none(rt: HostRuntime) {
-    assert_eq!(rt; numbers(Line::new(0, 1, 0)), (0, 0, 0));
-    assert_eq!(rt; numbers(Line::new(4000, 1, 0)), (0, 0, 0));
-    assert_eq!(rt; numbers(Line::new(1, -16_001, 0)), (0, 0, 0));
-    assert_eq!(rt; numbers(Line::new(1, 16_001, 0)), (0, 0, 0));
-    assert_eq!(rt; numbers(Line::new(1, 0, -96_000_001)), (0, 0, 0));
-    assert_eq!(rt; numbers(Line::new(1, 0, 96_000_001)), (0, 0, 0));
-    assert_eq!(rt; numbers(Line::new(2, 4, 0)), (0, 0, 0));
-    assert_eq!(rt; numbers(Line::new(2, 0, 5)), (0, 0, 0));
-    assert_eq!(rt; numbers(Line::new(i32::MIN, 1, 0)), (0, 0, 0));
-    assert_eq!(rt; numbers(Line::new(1, i32::MIN, 0)), (0, 0, 0));
-    assert_eq!(rt; numbers(Line::new(1, 0, i32::MIN)), (0, 0, 0));
+    assert_eq!(rt; numbers(Line::new(0, 1, 0)), None);
+    assert_eq!(rt; numbers(Line::new(4000, 1, 0)), None);
+    assert_eq!(rt; numbers(Line::new(1, -16_001, 0)), None);
+    assert_eq!(rt; numbers(Line::new(1, 16_001, 0)), None);
+    assert_eq!(rt; numbers(Line::new(1, 0, -96_000_001)), None);
+    assert_eq!(rt; numbers(Line::new(1, 0, 96_000_001)), None);
+    assert_eq!(rt; numbers(Line::new(2, 4, 0)), None);
+    assert_eq!(rt; numbers(Line::new(2, 0, 5)), None);
+    assert_eq!(rt; numbers(Line::new(i32::MIN, 1, 0)), None);
+    assert_eq!(rt; numbers(Line::new(1, i32::MIN, 0)), None);
+    assert_eq!(rt; numbers(Line::new(1, 0, i32::MIN)), None);
 }
 
 #[test]
@@ -131,9 +131,9 @@ fn cheaper_lines(rt: HostRuntime) -> Result<(), Fail> {
 fn slopes_of_two_shots(rt: HostRuntime) -> Result<(), Fail> {
     let p = shot(500, 20)?;
     let q = shot(1000, 0)?;
-    assert_eq!(rt; terms(Slope::between(p, q)), (-1, 25));
-    assert_eq!(rt; terms(Slope::between(q, p)), (0, 0));
-    assert_eq!(rt; terms(Slope::between(p, p)), (0, 0));
+    assert_eq!(rt; terms(Slope::between(p, q)), Some((-1, 25)));
+    assert_eq!(rt; terms(Slope::between(q, p)), None);
+    assert_eq!(rt; terms(Slope::between(p, p)), None);
     Ok(())
 }
 

@@ -129,11 +129,7 @@ impl<R: Rack, P: PriceRule> Sheet<R, P> {
     fn rows_of_slip(&self, rows: usize) -> Result<usize, Refusal>
         ensures { Called (Slip rows) (slip_reply result) (sees R.Rack.held R.Rack.capacity P.PriceRule.tariff self.now) (sees R.Rack.held R.Rack.capacity P.PriceRule.tariff self.now) }
     {
-        let mut table = [Row {
-            place: 0,
-            rise: 0,
-            fall: 0,
-        }; MOST_SHOTS];
+        let mut table = [Row::default(); MOST_SHOTS];
         self.slip(&mut table[..rows.min(MOST_SHOTS)])
     }
 }
