@@ -1,17 +1,13 @@
 -- How an answer is written: its parts, parted by tabs.
---   failing_text   a place and its two rates
---   text_of        an answer as text, without the line feed
+--   text_of   an answer as text, without the line feed
 -- Assumes nothing.
 use Rattle.std.specs.Prelude.{ℕ, ◌/◌, ◌%◌, List, ◌++◌, codes, decimal}
 use Rattle.std.specs.Fmt.{signed_decimal}
 use Rattle.shots.specs.Refusals.{number_of}
 use Rattle.lines.specs.Texts.{priced_text, side_text}
-use Rattle.appraisal.specs.declared.answer.FailingPlace.{FailingPlace}
+use Rattle.slips.specs.Texts.{row_text}
 use Rattle.appraisal.specs.declared.answer.Answer.{Answer}
 use Rattle.appraisal.specs.declared.answer.Answer.TheVariants.{Refused, Judged, Total, Cheapest, NotCheapest, Untested}
-
-abbrev pub failing_text : FailingPlace → List ℕ
-failing_text p = decimal p.place ++ (codes "\t" ++ (signed_decimal p.rise ++ (codes "\t" ++ signed_decimal p.fall)))
 
 abbrev pub text_of : Answer → List ℕ
 text_of (Refused refusal line) = codes "no\t" ++ (decimal (number_of refusal) ++ (codes "\t" ++ decimal line))
@@ -24,5 +20,5 @@ text_of (Total total a t) =
     ++ (codes "\t"
     ++ (decimal (t / 1000) ++ (codes "." ++ (decimal (t / 100 % 10) ++ (decimal (t / 10 % 10) ++ decimal (t % 10)))))))))
 text_of Cheapest = codes "cheapest"
-text_of (NotCheapest at by) = codes "not cheapest\t" ++ (failing_text at ++ (codes "\t" ++ priced_text by))
+text_of (NotCheapest at by) = codes "not cheapest\t" ++ (row_text at ++ (codes "\t" ++ priced_text by))
 text_of Untested = codes "untested\tfewer than two speeds on the line"

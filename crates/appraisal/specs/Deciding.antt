@@ -15,11 +15,11 @@ use Rattle.fit.specs.Rates.{rise_at, fall_at}
 use Rattle.fit.specs.Spanning.{TwoSpeeds}
 use Rattle.fit.specs.Testing.{First}
 use Rattle.fit.specs.Totals.{total_of}
-use Rattle.appraisal.specs.declared.answer.FailingPlace.{FailingPlace}
+use Rattle.slips.specs.declared.row.Row.{Row}
 use Rattle.appraisal.specs.declared.answer.Answer.{Answer}
 use Rattle.appraisal.specs.declared.answer.Answer.TheVariants.{Refused, Judged, Total, Cheapest, NotCheapest, Untested}
 
-pub record Shown (xs : List Shot) (l : Line) (k : ℕ) (at : FailingPlace) (by : PricedLine) : Type 0 where
+pub record Shown (xs : List Shot) (l : Line) (k : ℕ) (at : Row) (by : PricedLine) : Type 0 where
   pub first : First even l xs k
   pub rise_is : at.rise ≡ rise_at even l xs first.shot
   pub fall_is : at.fall ≡ fall_at even l xs first.shot

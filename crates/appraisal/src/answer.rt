@@ -1,9 +1,10 @@
 //! What the program answers, and how it is written.
 ghost use Rattle.std.specs.Prelude.{Some};
-ghost use Rattle.appraisal.specs.Answers.{text_of, failing_text};
+ghost use Rattle.appraisal.specs.Answers.{text_of};
 
 use lines::{PricedLine, Side};
 use shots::Refusal;
+use slips::Row;
 use std::fmt;
 
 /// The answer to one text line, or to all of them.
@@ -31,28 +32,11 @@ pub enum Answer {
     /// A line is cheaper: the first place that shows it, its two rates, and the line turned about it
     /// with its total.
     NotCheapest {
-        at: FailingPlace,
+        at: Row,
         by: PricedLine,
     },
     /// Fewer than two shots of different speeds are on the line, so the test does not apply.
     Untested,
-}
-
-/// The first place that shows that a line is cheaper, and its two rates.
-#[derive(Clone, Copy, PartialEq, Eq, Debug)]
-pub struct FailingPlace {
-    pub place: usize,
-    pub rise: i64,
-    pub fall: i64,
-}
-
-impl fmt::Display for FailingPlace {
-    ghost output = { λ s. Some (failing_text s) };
-
-    fn fmt<W: fmt::Write>(&self, f: &mut fmt::Formatter<W>) -> fmt::Result {
-        let FailingPlace { place, rise, fall } = *self;
-        write!(f, "{place}\t{rise}\t{fall}")
-    }
 }
 
 impl fmt::Display for Answer {

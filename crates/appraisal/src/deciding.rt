@@ -4,11 +4,12 @@ ghost use Rattle.shots.specs.Prices.{even};
 ghost use Rattle.fit.specs.Testing.{First};
 ghost use Rattle.appraisal.specs.Deciding.{Verdict, Shown};
 
-use crate::answer::{Answer, FailingPlace};
+use crate::answer::Answer;
 use fit::{Fit, has_two_speeds};
 use lines::{Line, PricedLine};
 use racks::Rack;
 use shots::EvenPrices;
+use slips::Row;
 
 /// Whether any line is cheaper than the card's over the held shots, and if so, which.
 pub fn verdict<R: Rack>(rack: &R, line: Line) -> Answer
@@ -31,7 +32,7 @@ pub fn verdict<R: Rack>(rack: &R, line: Line) -> Answer
 }
 
 // The first place that shows that a line is cheaper, and the line turned about it.
-fn cheaper<R: Rack>(rack: &R, line: Line, place: usize) -> (FailingPlace, PricedLine)
+fn cheaper<R: Rack>(rack: &R, line: Line, place: usize) -> (Row, PricedLine)
     requires { First even line (R.Rack.held rack.now) place }
     ensures { (result.0.place ≡ place) × Shown (R.Rack.held rack.now) line place result.0 result.1 }
 {
@@ -48,5 +49,5 @@ fn cheaper<R: Rack>(rack: &R, line: Line, place: usize) -> (FailingPlace, Priced
         line: turned,
         total: fit.total(turned),
     };
-    (FailingPlace { place, rise, fall }, by)
+    (Row { place, rise, fall }, by)
 }

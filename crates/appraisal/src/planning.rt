@@ -17,6 +17,7 @@ pub fn plan<R: Rack>(rack: &R, calls: &mut [Call]) -> Option<usize>
     if count > calls.len() {
         return None;
     }
+    // by index, since after a `zip` over `iter_mut` no contract says what became of the calls
     for (i, shot) in rack.iter().enumerate() {
         calls[i] = Call::Add(Entry::from(shot));
     }

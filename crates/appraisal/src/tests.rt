@@ -4,6 +4,7 @@ use law::{Call, Moment, Reply};
 use lines::{Line, PricedLine, Side};
 use racks::{Rack, RecordRack};
 use shots::{Refusal, Shot};
+use slips::Row;
 use std::test::Fail;
 
 // The line of three numbers.
@@ -37,7 +38,7 @@ fn verdicts_name_a_cheaper_line(rt: HostRuntime) -> Result<(), Fail> {
     assert_eq!(rt;
         verdict(&rack, level),
         Answer::NotCheapest {
-            at: FailingPlace {
+            at: Row {
                 place: 2,
                 rise: 5000,
                 fall: -1000,

@@ -6,6 +6,7 @@ ghost use Rattle.appraisal.specs.Text.{TextLine};
 fn first_feed(input: &[u8]) -> Option<usize>
     ensures { result ≡ position (λ b. b == 10) input.now }
 {
+    // a function of its own: inlined, the check does not find that `end` is what `position` found
     input.iter().position(|b| *b == b'\n')
 }
 

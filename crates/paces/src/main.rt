@@ -3,7 +3,7 @@
 #![tactic(auto)]
 
 use law::Word;
-use racks::{Rack, RecordRack};
+use racks::{MOST_SHOTS, Rack, RecordRack};
 use sheet::Sheet;
 use shots::{Entry, EvenPrices, PriceRule, Shot};
 use slips::Row;
@@ -31,7 +31,7 @@ fn pace<T: Runtime>(rt: &T, count: u32) -> anyhow::Result<()> {
         weight: 1,
         stuff: 0,
     };
-    let mut records = [blank; 512];
+    let mut records = [blank; MOST_SHOTS];
     let mut rack = RecordRack::open(&mut records);
     for i in 0..count {
         let _ = rack.add(entry(i));
@@ -68,7 +68,7 @@ fn pace_pivots<T: Runtime, R: Rack, P: PriceRule>(
         }
     }
     let each = start.elapsed(rt)?.as_nanos() / u128::from(TURNS);
-    println!(rt; "{count} shots: 100 totals add up to {total}")?;
+    println!(rt; "{count} shots: {TURNS} totals add up to {total}")?;
     Ok(eprintln!(rt; "{count}\tpivot, in force\t{each}")?)
 }
 
@@ -83,7 +83,7 @@ fn pace_changes<T: Runtime, R: Rack, P: PriceRule>(
     let mut adds: u128 = 0;
     for _ in 0..TURNS {
         let start = Instant::now(rt)?;
-        let _ = sheet.strike((last % 512) as i32);
+        let _ = sheet.strike((last % MOST_SHOTS as u32) as i32);
         strikes = strikes.saturating_add(start.elapsed(rt)?.as_nanos());
         let start = Instant::now(rt)?;
         let _ = sheet.add(entry(last));
@@ -103,37 +103,33 @@ fn pace_questions<T: Runtime, R: Rack, P: PriceRule>(
 ) -> anyhow::Result<()> {
     let start = Instant::now(rt)?;
     let mut offsets: i64 = 0;
-    for b in 0..100 {
-        if let Ok(offset) = sheet.mount(7, b) {
+    for b in 0..TURNS {
+        if let Ok(offset) = sheet.mount(7, b as i32) {
             offsets = offsets.wrapping_add(i64::from(offset));
         }
     }
-    let mount = start.elapsed(rt)?.as_nanos() / 100;
-    println!(rt; "{count} shots: 100 offsets add up to {offsets}")?;
+    let mount = start.elapsed(rt)?.as_nanos() / u128::from(TURNS);
+    println!(rt; "{count} shots: {TURNS} offsets add up to {offsets}")?;
     eprintln!(rt; "{count}\tmount\t{mount}")?;
     let start = Instant::now(rt)?;
     let mut rates: i64 = 0;
-    for i in 0..100 {
-        rates = rates.wrapping_add(rates_in_row(sheet, i));
+    for i in 0..TURNS {
+        rates = rates.wrapping_add(rates_in_row(sheet, i as usize));
     }
-    let slip = start.elapsed(rt)?.as_nanos() / 100;
+    let slip = start.elapsed(rt)?.as_nanos() / u128::from(TURNS);
     eprintln!(rt; "{count}\tslip\t{slip}")?;
     Ok(println!(rt; "{count} shots: rates, up less down, add up to {rates}")?)
 }
 
 // Slips, and takes the fall rate in a row from its rise rate; 0 in a row that is not written.
 fn rates_in_row<R: Rack, P: PriceRule>(sheet: &Sheet<R, P>, row: usize) -> i64 {
-    let mut table = [Row {
-        place: 0,
-        rise: 0,
-        fall: 0,
-    }; 512];
+    let mut table = [Row::default(); MOST_SHOTS];
     let _ = sheet.slip(&mut table);
-    let Row { rise, fall, .. } = table[row % 512];
+    let Row { rise, fall, .. } = table[row % MOST_SHOTS];
     rise.wrapping_sub(fall)
 }
 
-// Entries of one weight and no stuff.
+// Entries of weight 1 and stuff 0.
 fn entry(i: u32) -> Entry {
     Entry::new(speed(i), lead(i), 1, 0)
 }
