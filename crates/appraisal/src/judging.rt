@@ -38,8 +38,7 @@ fn add_shot<R: Rack>(rack: &mut R, text: &[u8]) -> Result<(usize, Shot), Refusal
     let entry = read_entry(text).ok_or(Refusal::Unreadable)?;
     // judged here too, since the answer wants the shot that the add keeps
     let shot = Shot::try_from(entry)?;
-    // the rack's own count, and not that of the reference to it
-    let place = (*rack).count();
+    let place = rack.count();
     rack.add(entry)?;
     Ok((place, shot))
 }
