@@ -25,23 +25,19 @@ pub fn verdict<R: Rack>(rack: &R, line: Line) -> Answer
     match fit.failing_place(line) {
         None => Answer::Cheapest,
         Some(place) => {
-            let (at, by) = cheaper(rack, line, place);
+            let (at, by) = cheaper(&fit, line, place);
             Answer::NotCheapest { at, by }
         }
     }
 }
 
 // The first place that shows that a line is cheaper, and the line turned about it.
-fn cheaper<R: Rack>(rack: &R, line: Line, place: usize) -> (Row, PricedLine)
-    requires { First even line (R.Rack.held rack.now) place }
-    ensures { (result.0.place ≡ place) × Shown (R.Rack.held rack.now) line place result.0 result.1 }
+fn cheaper<R: Rack>(fit: &Fit<R, EvenPrices>, line: Line, place: usize) -> (Row, PricedLine)
+    requires { First even line (R.Rack.held fit.now.rack.now) place }
+    ensures { (result.0.place ≡ place) × Shown (R.Rack.held fit.now.rack.now) line place result.0 result.1 }
 {
-    // a rack holds at most 512 shots, so the place fits
+    // a rack holds at most 512 shots, so the place fits; the rates take it as a fitter types it
     let at = place as i32;
-    let fit = Fit {
-        rack,
-        rule: &EvenPrices,
-    };
     let rise = fit.rise_rate(line, at).unwrap();
     let fall = fit.fall_rate(line, at).unwrap();
     let turned = fit.turned_line(at).unwrap();

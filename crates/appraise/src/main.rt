@@ -3,7 +3,7 @@
 #![tactic(auto)]
 
 use appraisal::{Answer, close, judge, read_card, text_line, verdict};
-use racks::RecordRack;
+use racks::{MOST_SHOTS, RecordRack};
 use shots::{Refusal, Shot};
 use std::io::Read;
 
@@ -29,8 +29,9 @@ fn appraise(rt: &impl Print, input: &[u8]) -> anyhow::Result<()> {
         weight: 1,
         stuff: 0,
     };
-    let mut records = [blank; 512];
+    let mut records = [blank; MOST_SHOTS];
     let mut rack = RecordRack::open(&mut records);
+    // numbered by a range, which ends the loop: no contract says that the text lines come to an end
     for number in 2..u64::MAX {
         let Some((text, after)) = text_line(rest) else {
             break;

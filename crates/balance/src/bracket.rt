@@ -30,7 +30,7 @@ impl<K: Key> Bracket<K> {
     pub(crate) fn middle(self, pulls: &[Pull<K>]) -> Option<K>
         ensures { Between (at_most K.cmp) pulls.now self.low self.high result }
     {
-        // a loop: with a chain to `count()` a mount of 512 shots took 29 µs, and takes 19
+        // a loop: with a chain to `count()` a mount of 512 shots took 1.5 times as long
         let mut count: usize = 0;
         for pull in pulls {
             if self.has_inside(pull.key) {

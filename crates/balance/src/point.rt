@@ -23,6 +23,7 @@ fn holds_at<K: Key>(pulls: &[Pull<K>], key: K) -> bool
     requires fair { Every Fair pulls.now }
     ensures { result ≡ holds (at_most K.cmp) pulls.now key }
 {
+    // one loop for the two sums: two chains would go over the pulls twice
     let mut under: u64 = 0;
     let mut over: u64 = 0;
     for pull in pulls {

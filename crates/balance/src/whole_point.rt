@@ -16,5 +16,6 @@ pub fn whole_balance_point(pulls: &[Pull<i32>]) -> Option<Balance<i32>>
     ensures median { Each result (λ b. Even pulls.now → Median int_le pulls.now b.lowest) }
     ensures cheapest { Each result (λ b. Cheapest pulls.now b.lowest) }
 {
+    // a function of its own: at whole keys it promises one thing more, that the level is the cheapest
     balance_point(pulls)
 }

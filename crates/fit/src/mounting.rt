@@ -23,7 +23,7 @@ impl Incline {
     fn new(a: i32, b: i32) -> Result<Incline, Refusal>
         ensures { MatchResult result (λ incline. IsSlope a b × (incline.a ≡ a) × (incline.b ≡ b)) (λ refusal. (IsSlope a b → ⊥) × (refusal ≡ Refusal.Slope)) }
     {
-        if a < 1 || a > 4000 || b < -16000 || b > 16000 {
+        if !(1..=4000).contains(&a) || !(-16_000..=16_000).contains(&b) {
             return Err(Refusal::Slope);
         }
         Ok(Incline { a, b })

@@ -7,7 +7,7 @@ use std::fmt;
 
 impl Word {
     /// The word in print.
-    // a `&str`, which the word of a reply hands on
+    // a `&str` for a caller with no memory to print into; the word of a reply hands it on
     pub fn text(self) -> &'static str
         ensures { result.now ≡ word_of self }
     {
@@ -22,6 +22,7 @@ impl Word {
 
 impl Reply {
     /// The answer's word.
+    // a `&str` for a caller with no memory to print into; `Display` writes by it
     pub fn word(self) -> &'static str
         ensures { result.now ≡ reply_word self }
     {
@@ -36,6 +37,7 @@ impl Reply {
     }
 
     /// The answer's number, where it is a refusal.
+    // an `Option` for a caller with no memory to print into
     pub fn number(self) -> Option<u8>
         ensures { result ≡ reply_number self }
     {

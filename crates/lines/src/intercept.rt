@@ -10,5 +10,6 @@ pub(crate) fn intercept(a: i32, b: i32, shot: Shot) -> i32
     ensures value { result ≡ a *ℤ shot.lead -ℤ b *ℤ pos shot.speed }
     ensures small { (negsuc 95991999 ≤ℤ result) × (result ≤ℤ pos 95992000) }
 {
+    // a `requires` and no type: A and B are fields of a line here, and there the terms of a slope just checked
     a * i32::from(shot.lead) - b * i32::from(shot.speed)
 }

@@ -42,6 +42,7 @@ impl<R: Rack> Iterator for Iter<'_, R> {
     ghost remaining = { item_count (λ left. left) };
 
     fn next(&mut self) -> Option<Shot> {
+        // cast: a rack is read at a place as a fitter types it
         let shot = self.rack.read(self.place as i32).ok()?;
         self.place += 1;
         Some(shot)

@@ -17,6 +17,7 @@ use shots::{Entry, Refusal, Shot};
 #[derive(Drop)]
 pub struct PackedRack<'a> {
     bytes: &'a mut [u8],
+    // beside the bytes, since they are lent and what lies past the count is promised too
     count: usize,
     ghost fits: { count ≤ places bytes.now },
     ghost whole: { flat_map image_of (shots_of_bytes count bytes.now) ≡ take (6 * count) bytes.now },
@@ -94,6 +95,7 @@ fn shot_in(six: &[u8]) -> Shot
 {
     match six {
         [a, b, c, d, e, f] => Shot::from_image([*a, *b, *c, *d, *e, *f]).unwrap(),
+        // there are six, as is required
         _ => unreachable(),
     }
 }

@@ -30,6 +30,7 @@ pub trait Rack {
     fn read(&self, place: i32) -> Result<Shot, Refusal>
         ensures { Read (held self.now) place result };
 
+    // that the room stays is said of the rack before and after a call, which no type can say of itself
     /// Puts the shot of these four numbers at the end; refused by `Speed`, `Lead`, `Weight` or
     /// `Stuff`, by the first that is out of its range, then by `Full`.
     fn add(&mut self, entry: Entry) -> Result<(), Refusal>

@@ -117,7 +117,7 @@ impl<R: Rack, P: PriceRule> Sheet<R, P> {
         })
     }
 
-    // The line for which issue answers a pass now.
+    // The line for which issue answers a pass now: by issue itself, since that is what a moment tells.
     fn line_in_force(&self) -> Option<Line>
         ensures { result ≡ in_force self.now.inner.stage }
     {

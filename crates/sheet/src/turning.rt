@@ -40,7 +40,7 @@ impl<R: Rack, P: PriceRule> Sheet<R, P> {
         requires { First (P.PriceRule.tariff self.now.rule) line (R.Rack.held self.now.rack) place }
         ensures { TurnedAt (P.PriceRule.tariff self.now.rule) (R.Rack.held self.now.rack) (pos place) (Some result) }
     {
-        // a rack holds at most 512 shots, so the place fits
+        // a rack holds at most 512 shots, so the place fits; the turn takes it as a fitter types it
         self.fit().turned_line(place as i32).unwrap()
     }
 

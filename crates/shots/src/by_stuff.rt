@@ -21,6 +21,7 @@ impl StuffPrices {
     pub fn set(&mut self, stuff: i32, late: i32, early: i32) -> Result<(), Refusal>
         ensures { SetPrice self.old.table stuff late early result self.new.table }
     {
+        // compared by hand: through `contains` the check finds neither the refusals nor the ranges
         if stuff < 0 || stuff > 15 {
             return Err(Refusal::Stuff);
         }

@@ -11,7 +11,7 @@ pub trait PriceRule {
     ghost fair: { (rule : Self) → Fair (tariff rule) };
 
     /// The late price and the early price of a stuff, together.
-    // a pair of `u8` by the rules of the product: whoever adds up takes it apart where it is used
+    // a pair, by the rules of the product, and no struct: each user takes it apart at once
     fn prices(&self, stuff: i32) -> (u8, u8)
         ensures { result ≡ tariff self.now stuff };
 }

@@ -53,6 +53,7 @@ impl From<Refusal> for u8 {
 
 impl Refusal {
     /// The word that stands for this refusal in print.
+    // a `&str` for a caller with no memory to print into; `Display` writes by it
     pub fn word(self) -> &'static str
         ensures { result.now ≡ word_of self }
     {

@@ -52,12 +52,13 @@ fn fill<R: Rack, P: PriceRule>(fit: &Fit<R, P>, line: Line, table: &mut [Row])
     }
 }
 
-// The row of the shot at a place that is known to hold one; none where it is off the line.
+// The row of the shot at a place that is known to hold one, by the range of the one loop that asks; none
+// where it is off the line.
 fn row_at<R: Rack, P: PriceRule>(fit: &Fit<R, P>, line: Line, place: usize) -> Option<Row>
     requires { place < length (R.Rack.held fit.now.rack.now) }
     ensures { RowAt (P.PriceRule.tariff fit.now.rule.now) line (R.Rack.held fit.now.rack.now) place result }
 {
-    // a rack holds at most 512 shots, so the place fits
+    // a rack holds at most 512 shots, so the place fits; the rates take it as a fitter types it
     let rise = fit.rise_rate(line, place as i32)?;
     let fall = fit.fall_rate(line, place as i32)?;
     Some(Row { place, rise, fall })
