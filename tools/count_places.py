@@ -26,7 +26,7 @@ POINTS = {
         r"for \w+ in [^\n{]*\.\.[^\n{]*\{",
         r"while [^\n{]*[<>!]=? ?\w+ \{",
         r"\b(?:count|left|len|n) [+-]= 1;",
-        r"for \(i, \w+\) in [^\n{]*enumerate\(\) \{\s*if [^\n]*\{\s*return i;",
+        r"for \(i, \w+\) in [^\n{]*enumerate\(\) \{",
     ],
     "4 order, conversion or printing by hand": [
         r"fn at_most\(",
