@@ -1,5 +1,7 @@
--- Sums and counts over a list, element by element: `x ≡ get_or xs i x` says that x is what stands at place i.
-use Rattle.std.proofs.Common.{◌≡◌, ℕ, zero, suc, ◌+◌, ◌<◌, ◌≤◌, Bool, true, false, cond, List, [], ◌∷◌, length, get_or, take, sum_by, count_by, sym, refl, ap, ◌∙◌, arith}
+-- Sums, counts and facts over a list, element by element: `x ≡ get_or xs i x` says that x is what stands at place i.
+use Rattle.std.proofs.Common.{◌≡◌, ℕ, zero, suc, ◌+◌, ◌<◌, ◌≤◌, Bool, true, false, cond, List, [], ◌∷◌, length, get_or, take, sum_by, count_by, sym, refl, ap, ◌∙◌, subst, ⊎_elim, arith}
+use Rattle.std.proofs.lemmas.List.{get_or_default}
+use Rattle.std.proofs.lemmas.Bool.{cases_lt}
 use Rattle.std.proofs.lemmas.List.Sums.{sum_by-cons, sum_by_more, get_or-le-sum_by}
 use Rattle.balance.specs.Balances.{Every}
 
@@ -41,6 +43,11 @@ cond_no false h = refl
 
 pub count_zero : {X : Type 0} (f : X → Bool) (xs : List X) → count_by f xs ≡ 0 → Every (λ x. f x ≡ false) xs
 count_zero f xs z i x l e = cond_no (f x) (zero_sum (λ y. cond (f y) 1 0) xs z i x l e)
+
+-- ---- facts: one element more
+pub every_more : {X : Type 0} (P : X → Type 0) (xs : List X) (i : ℕ) (x : X) → i < length xs → x ≡ get_or xs i x → P x → ((k : ℕ) (y : X) → k < i → y ≡ get_or xs k y → P y) → (k : ℕ) (y : X) → k < i + 1 → y ≡ get_or xs k y → P y
+every_more P xs i x l e p h k y m d =
+    ⊎_elim (λ s. h k y s d) (λ s. let n : k ≡ i = omega arith in subst P (e ∙ get_or_default xs i x y l ∙ ap (λ j. get_or xs j y) (sym n) ∙ sym d) p) (cases_lt k i)
 
 -- ---- tests that imply one another
 pub cond_up : (a b : Bool) (n : ℕ) → (a ≡ true → b ≡ true) → cond a n 0 ≤ cond b n 0

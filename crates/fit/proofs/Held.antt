@@ -1,7 +1,8 @@
 -- Places of a list: at each there is one element, and what holds at each so far.
-use Rattle.std.proofs.Common.{◌≡◌, ℕ, ◌<◌, Bool, true, false, List, [], ◌∷◌, length, get_or, ℤ, nat_abs, Some, None, Option, Ok, Err, Result, MatchOption, Decides, sym, refl, ◌∙◌, subst, arith}
+use Rattle.std.proofs.Common.{◌≡◌, ℕ, ◌+◌, ◌<◌, Bool, true, false, List, [], ◌∷◌, length, get_or, ℤ, nat_abs, Some, None, Option, Ok, Err, Result, MatchOption, Decides, sym, refl, ◌∙◌, subst, ⊎_elim, arith}
 use Rattle.std.proofs.lemmas.List.{get_or_default}
 use Rattle.std.proofs.lemmas.Int.{ints}
+use Rattle.std.proofs.lemmas.Bool.{cases_lt}
 use Rattle.std.specs.Bool.{then_some}
 use Rattle.std.specs.Result.{result_ok}
 use Rattle.std.specs.List.{AllWithin, HoldsAt}
@@ -14,6 +15,13 @@ use Rattle.fit.specs.Rates.{OnAt}
 
 pub one_at : {T : Type 0} (xs : List T) (i : ℕ) (x y : T) → i < length xs → x ≡ get_or xs i x → y ≡ get_or xs i y → x ≡ y
 one_at xs i x y h p q = p ∙ get_or_default xs i x y h ∙ sym q
+
+-- what holds at each of the first k places, and at the next, holds at each of the first k + 1
+pub place_more : {T : Type 0} (P : T → Type 0) (xs : List T) (k : ℕ) (x : T) → k < length xs → x ≡ get_or xs k x → P x → ((j : ℕ) (y : T) → j < k → y ≡ get_or xs j y → P y) → (j : ℕ) (y : T) → j < k + 1 → y ≡ get_or xs j y → P y
+place_more P xs k x h e here below j y b p =
+    ⊎_elim (λ less. below j y less p)
+    (λ more. let at : j ≡ k = omega arith in subst P (one_at xs k x y h e (subst (λ i. y ≡ get_or xs i y) at p)) here)
+    (cases_lt j k)
 
 -- what holds within a list holds of each element there
 pub each_within : {T : Type 0} (P : T → Type 0) (xs : List T) (n : ℕ) → AllWithin P xs 0 n → (j : ℕ) (y : T) → j < n → y ≡ get_or xs j y → P y

@@ -1,5 +1,6 @@
--- What a shot adds to a rate when the line is lifted at its speed: by its side, and that it is small.
-use Rattle.std.proofs.Common.{◌≡◌, ℕ, ◌*◌, ◌≤◌, true, false, ℤ, pos, negsuc, ◌*ℤ◌, neg_ℤ, ◌≤ℤ◌, ◌<ℤ◌, sym, ap, ◌∙◌, subst, mul-le-mul, arith, w32, w64, SFits, to_z, of_z}
+-- What a shot adds to a rate when the line is lifted at its speed: by its side, and that it is small; and that a rate depends on
+-- the shot that the line is turned about by its speed alone.
+use Rattle.std.proofs.Common.{◌≡◌, ℕ, ◌*◌, ◌≤◌, true, false, ℤ, pos, negsuc, ◌*ℤ◌, neg_ℤ, ◌≤ℤ◌, ◌<ℤ◌, sym, refl, ap, ◌∙◌, subst, mul-le-mul, arith, w32, w64, SFits, to_z, of_z}
 use borrow.Author.Differences.{ints}
 use lib.Signed.{lt_z}
 use Rattle.std.proofs.lemmas.Int.{to_z-of_z, by_lt_z}
@@ -8,6 +9,7 @@ use Rattle.lines.specs.Lines.{AnyLine, any, miss_of}
 use Rattle.lines.specs.declared.line.Line.{Line}
 use Rattle.lines.proofs.Sizes.{Sized, sized_mul}
 use Rattle.theory.specs.Points.{Point}
+use Rattle.theory.specs.Rates.{rise_part, fall_part}
 use Rattle.fit.specs.Points.{point_at, point}
 use Rattle.fit.specs.Lifts.{lift_part}
 
@@ -73,3 +75,12 @@ told part lift lifts tariff l z y p d r ep low ed small er =
       is = e ∙ ap (λ x. lift_part l y x d) ep ∙ ap (lift_part l y (tariff (pos y.stuff))) ed ∙ sym (lifts l z y (tariff (pos z.stuff)) (tariff (pos y.stuff)));
       size = subst (Sized 8000000) (sym e) (lift_size l y p d low small);
     }
+
+-- ---- a rate depends on z by its speed alone
+pub rise_about : (l : AnyLine) (z : Shot) (p q : ℕ × ℕ) (y : Point) → rise_part l (point_at z p) y ≡ rise_part l (point_at z q) y
+unfolding rise_part
+rise_about l z p q y = refl
+
+pub fall_about : (l : AnyLine) (z : Shot) (p q : ℕ × ℕ) (y : Point) → fall_part l (point_at z p) y ≡ fall_part l (point_at z q) y
+unfolding fall_part
+fall_about l z p q y = refl

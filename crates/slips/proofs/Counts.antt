@@ -1,4 +1,5 @@
--- How many shots of a list are on a line: at most all of them, and as many as pass a test; and a loop that meets them.
+-- How many shots of a list are on a line: as many as the list has rows, at most all of them, and as many as pass a test; and a
+-- loop that meets them.
 use Rattle.std.proofs.Common.{◌≡◌, ℕ, suc, ◌+◌, ◌<◌, ◌≤◌, Bool, true, false, cond, List, [], ◌∷◌, length, get_or, drop, ℤ, pos, Decides, sym, refl, ap, ◌∙◌, arith}
 use lib.Signed.{lt_z}
 use Rattle.std.proofs.lemmas.List.{at_drop_more, at_drop_all}
@@ -7,7 +8,7 @@ use Rattle.std.specs.List.{filter}
 use Rattle.shots.specs.declared.shot.Shot.{Shot}
 use Rattle.lines.specs.Lines.{miss_of, On}
 use Rattle.lines.specs.declared.line.Line.{Line}
-use Rattle.slips.specs.Rows.{on_line}
+use Rattle.slips.specs.Rows.{on_line, rows_from, rows_of}
 
 -- ---- the choice by the sign of a miss
 pub if_on : {T : Type 0} (e : ℤ) (off on : T) → e ≡ pos 0 → cond (lt_z (pos 0) e) off (cond (lt_z e (pos 0)) off on) ≡ on
@@ -38,6 +39,13 @@ all_that_pass l (z ∷ xs) =
 pub few : (l : Line) (xs : List Shot) → on_line l xs ≤ length xs
 few l [] = omega arith
 few l (z ∷ xs) = let h = few l xs in grind (arith, ints)
+
+pub length_from : (tariff : ℤ → ℕ × ℕ) (l : Line) (xs : List Shot) (i : ℕ) (ys : List Shot) → length (rows_from tariff l xs i ys) ≡ on_line l ys
+length_from tariff l xs i [] = refl
+length_from tariff l xs i (z ∷ ys) = let h = length_from tariff l xs (i + 1) ys in grind (arith, ints)
+
+pub length_rows : (tariff : ℤ → ℕ × ℕ) (l : Line) (xs : List Shot) → length (rows_of tariff l xs) ≡ on_line l xs
+length_rows tariff l xs = length_from tariff l xs 0 xs
 
 -- ---- the shots so far: n of the first i are on the line
 pub record Counted (l : Line) (xs : List Shot) (i n : ℕ) : Type 0 where

@@ -27,6 +27,13 @@ pub through_on : (z y : Point) → On (through z y) z
 unfolding through miss
 through_on z y = simp ring (simp flat (omega lin))
 
+pub through_other : (z y : Point) → On (through z y) y
+unfolding through miss
+through_other z y =
+    by_lt_z z.s y.s
+    (λ g. let w = ahead z y g in rw (w.run_is, w.num_is) (simp ring (simp flat (omega lin))))
+    (λ g. let w = behind z y g in rw (w.run_is, w.num_is) (simp ring (simp flat (omega lin))))
+
 pub lean_through : (l : AnyLine) (z y : Point) → lean l (through z y) ≡ l.a *ℤ num z y -ℤ l.b *ℤ run z y
 unfolding lean through
 lean_through l z y = simp ring (simp flat (omega lin))
