@@ -1,18 +1,28 @@
--- A text line whose shot was taken: the shot of its entry is the last of those held.
-use Rattle.std.proofs.Common.{◌≡◌, ℕ, List, [], length, get_or, Ok, sym, ap, ◌∙◌}
-use Rattle.std.proofs.Math.Seq.{get_or-append_seam}
-use Rattle.shots.specs.Shots.{Reads}
+-- A text line whose shot was taken: the shot of its entry is the last of those held, and a read at its place gives it.
+use Rattle.std.proofs.Common.{◌≡◌, ℕ, ◌≤◌, List, [], ◌∷◌, ◌++◌, length, get_or, nat_abs, Ok, Err, Result, refl, ap, ◌∙◌, arith, w32, to_z}
+use Rattle.std.specs.Result.{IsOk}
+use Rattle.std.proofs.lemmas.Int.{ints}
+use Rattle.std.proofs.lemmas.List.{length_push}
 use Rattle.shots.specs.declared.shot.Shot.{Shot}
 use Rattle.shots.specs.declared.entry.Entry.{Entry}
-use Rattle.racks.specs.Racks.{Added}
-use Rattle.law.proofs.Facts.{reads_is}
+use Rattle.shots.specs.declared.refusal.Refusal.{Refusal}
+use Rattle.racks.specs.Racks.{Read, Added}
 use Rattle.appraisal.specs.Readings.{ShotText}
 use Rattle.appraisal.specs.Judging.{Entered}
 
-module _ (cap : ℕ) (xs ys : List Shot) (text : List ℕ) where
-  pub entered : (entry : Entry) (shot : Shot) → ShotText text entry → Reads shot entry → Added cap xs entry (Ok tt) ys → Entered cap xs text ys × (shot ≡ get_or ys (length xs) shot)
-  entered entry shot written reads added =
-      let z = added.1.0 in
-      let same : shot ≡ z = reads_is shot entry reads ∙ sym (reads_is z entry added.1.1) in
-      let last : get_or ys (length xs) shot ≡ z = ap (λ (zs : List Shot). get_or zs (length xs) shot) added.1.2 ∙ get_or-append_seam xs z [] shot in
-      (record { entry = entry; written = written; taken = added.0; shot = z; reads = added.1.1; added = added.1.2 }, same ∙ sym last)
+pub entered : (cap : ℕ) (xs ys : List Shot) (text : List ℕ) (entry : Entry) → ShotText text entry → Added cap xs entry (Ok tt) ys → Entered cap xs text ys
+entered cap xs ys text entry written added =
+    record { entry = entry; written = written; taken = added.0; shot = added.1.0; reads = added.1.1; added = added.1.2 }
+
+-- one shot more than xs is held, and the read asks for the place after xs
+module _ (xs ys : List Shot) (z : Shot) (n : ℕ) (more : ys ≡ xs ++ z ∷ []) (few : length ys ≤ 512) (at : n ≡ length xs) where
+  pub is_read : (r : Result Shot Refusal) → Read ys (to_z w32 n) r → IsOk r
+  is_read (Ok y) read = refl
+  is_read (Err e) read =
+      let long = ap length more ∙ length_push xs z in absurd (read.0 (omega (arith, ints), omega (arith, ints)))
+
+  pub is_last : (y : Shot) → Read ys (to_z w32 n) (Ok y) → y ≡ get_or ys (length xs) y
+  is_last y read =
+      let long = ap length more ∙ length_push xs z in
+      let place : nat_abs (to_z w32 n) ≡ length xs = omega (arith, ints) in
+      read.1 ∙ ap (λ i. get_or ys i y) place

@@ -1,19 +1,19 @@
 -- What came of a life by the plan of shots: its moments are those of the plan, and what it answers is the best line.
-use Rattle.std.proofs.Common.{◌≡◌, ℕ, ◌+◌, ◌-◌, ◌<◌, ◌≤◌, List, [], reverse, length, get_or, take, drop, Some, None, Option, MatchOption, sym, ap, ◌∙◌, subst, inr, ⊎_elim, arith}
+use Rattle.std.proofs.Common.{◌≡◌, ℕ, ◌+◌, ◌-◌, ◌<◌, ◌≤◌, List, [], reverse, length, get_or, take, drop, Some, None, Option, MatchOption, sym, refl, ap, ◌∙◌, subst, inr, ⊎_elim, arith}
 use Rattle.std.proofs.lemmas.List.{take_at}
 use Rattle.std.proofs.lemmas.Option.{none-some}
 use Rattle.std.specs.Option.{IsSomeAnd}
 use Rattle.shots.specs.Prices.{even}
 use Rattle.shots.specs.declared.shot.Shot.{Shot}
 use Rattle.lines.specs.declared.line.Line.{Line}
-use Rattle.lines.specs.declared.priced.PricedLine.{PricedLine}
 use Rattle.fit.specs.First.{OneSpeed}
 use Rattle.law.specs.declared.kinds.Call.{Call}
 use Rattle.law.specs.declared.kinds.Moment.{Moment}
 use Rattle.law.specs.Lives.{in_force_by, Best as IsBest, Transcript}
 use Rattle.sheet.specs.Living.{Made as LifeMade, Lives}
 use Rattle.appraisal.specs.Planning.{plan_of, Planned}
-use Rattle.appraisal.specs.Finding.{Tells, BestOf, Made, Finds}
+use Rattle.appraisal.specs.Finding.{Costs, Tells, BestOf, Made, Finds}
+use Rattle.appraisal.specs.declared.answer.CheaperLine.{CheaperLine}
 use Rattle.appraisal.specs.declared.finding.Found.{Found}
 use Rattle.appraisal.proofs.Fresh.{last_in_force, ended}
 use Rattle.appraisal.proofs.Plans.{length_plan}
@@ -24,12 +24,19 @@ as_planned xs fresh ys calls planned before after cap k o made lives =
     let same : take k planned ≡ plan_of xs = ap (take k) made.2 ∙ take_at (plan_of xs) (drop k calls) k (sym made.0) in
     subst (λ (cs : List Call). Lives even cap fresh cs before o after ys) same lives
 
-tells_best : (xs : List Shot) (o : Option Line) (a : Option PricedLine) → Tells xs o a → ((l : Line) → o ≡ Some l → IsBest even xs l) → (o ≡ None → OneSpeed xs) → BestOf xs a
-tells_best xs o (Some by) t best none = (best by.line t.0, t.1)
+-- the line in force with its total, or that none is
+pub tells : (xs : List Shot) (o : Option Line) (r : Option CheaperLine) → MatchOption o (r ≡ None) (λ l. IsSomeAnd r (λ by. Costs xs l by)) → Tells xs o r
+tells xs None None told = refl
+tells xs None (Some by) told = absurd (none-some by (sym told))
+tells xs (Some l) None told = absurd told
+tells xs (Some l) (Some by) told = (l, refl, told)
+
+tells_best : (xs : List Shot) (o : Option Line) (a : Option CheaperLine) → Tells xs o a → ((l : Line) → o ≡ Some l → IsBest even xs l) → (o ≡ None → OneSpeed xs) → BestOf xs a
+tells_best xs o (Some by) t best none = (t.0, best t.0 t.1, t.2)
 tells_best xs o None t best none = none t
 
 module _ {cap n : ℕ} {xs ys : List Shot} {before after : List Moment} (is : n ≡ length (plan_of xs)) (made : LifeMade even cap (plan_of xs) before after ys) where
-  found : (d : Moment) (a : Option PricedLine) → length (plan_of xs) ≤ length after → Tells xs (get_or after (n - 1) d).pass a → Made cap xs before after ys (record { count = n; best = record { 0 = a } })
+  found : (d : Moment) (a : Option CheaperLine) → length (plan_of xs) ≤ length after → Tells xs (get_or after (n - 1) d).pass a → Made cap xs before after ys (record { count = n; best = record { 0 = a } })
   found d a long told =
       let some = length_plan xs in
       let all : n - 1 + 1 ≡ length (plan_of xs) = omega arith in

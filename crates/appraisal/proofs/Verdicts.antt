@@ -4,7 +4,7 @@ use Rattle.std.proofs.lemmas.Int.{ints}
 use Rattle.std.proofs.lemmas.Option.{none-some}
 use Rattle.shots.specs.Prices.{even}
 use Rattle.shots.specs.declared.shot.Shot.{Shot}
-use Rattle.lines.specs.Lines.{any}
+use Rattle.lines.specs.Lines.{any, Reads}
 use Rattle.lines.specs.declared.line.Line.{Line}
 use Rattle.racks.specs.Racks.{Holds}
 use Rattle.theory.specs.Points.{Cheaper as IsCheaper}
@@ -16,6 +16,7 @@ use Rattle.fit.specs.Totals.{total_of}
 use Rattle.fit.specs.Turning.{Descends}
 use Rattle.fit.proofs.Held.{one_at}
 use Rattle.appraisal.specs.Deciding.{Shown}
+use Rattle.appraisal.specs.declared.answer.CheaperLine.{CheaperLine}
 
 module _ (l : Line) (xs : List Shot) (k : ℕ) (p : ℤ) (e : p ≡ pos k) (f : First even l xs k) where
   holds : Holds xs p
@@ -35,14 +36,16 @@ module _ (l : Line) (xs : List Shot) (k : ℕ) (p : ℤ) (e : p ≡ pos k) (f : 
       let same : q.0 ≡ f.shot = one_at xs (nat_abs p) q.0 f.shot (omega (arith, ap nat_abs e, f.inside)) q.1.1 at in
       q.2 ∙ ap rate same
 
-  pub shown : (r s rise fall : ℤ) (m : Line) (total : ℤ) → Rate (rise_at even l xs) l xs p (Some r) → Rate (fall_at even l xs) l xs p (Some s) → Descends even xs p (Some m) → rise ≡ r → fall ≡ s → total ≡ total_of even m xs → Shown xs l k (record { place = k; rise = rise; fall = fall }) (record { line = m; total = total })
-  shown r s rise fall m total rises falls d er es et =
+  pub shown : (r s rise fall : ℤ) (m : Line) (by : CheaperLine) → Rate (rise_at even l xs) l xs p (Some r) → Rate (fall_at even l xs) l xs p (Some s) → Descends even xs p (Some m) → rise ≡ r → fall ≡ s → Reads m by.a by.b by.c → by.total ≡ total_of even m xs → Shown xs l k (record { place = k; rise = rise; fall = fall }) by
+  shown r s rise fall m by rises falls d er es en et =
       let q = d f.shot holds at l f.fails.0 f.fails.1 in
       let same : q.0 ≡ m = cc q.1 in
       record {
         first = f;
         rise_is = er ∙ rate_is (rise_at even l xs) r rises;
         fall_is = es ∙ rate_is (fall_at even l xs) s falls;
+        line = m;
+        numbers = en;
         turned = subst (λ n. Turned (points even xs) (point even f.shot) (any n)) same q.3;
         cheaper = subst (λ n. IsCheaper (any n) (any l) (points even xs)) same q.2;
         total = et;

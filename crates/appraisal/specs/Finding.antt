@@ -1,6 +1,6 @@
 -- The cheapest line over the shots xs, found by a fresh life of them at even prices.
 --   best_text   the cheapest line as text, or that there is none
---   Costs       the total of a line is its T over the shots
+--   Costs       the numbers of a line, and its T over the shots
 --   Tells       the answer tells this line in force, with its T, or that none is
 --   BestOf      the answer tells a line through two of the shots of different speeds, than which none is cheaper, with its
 --               T; or that there is none, where the shots have one speed
@@ -13,9 +13,8 @@
 use Rattle.std.specs.Prelude.{◌≡◌, ℕ, ◌<◌, ◌≤◌, ◌⊎◌, List, [], ◌++◌, length, take, drop, Some, None, Option, codes}
 use Rattle.shots.specs.Prices.{even}
 use Rattle.shots.specs.declared.shot.Shot.{Shot}
-use Rattle.lines.specs.Texts.{priced_text}
+use Rattle.lines.specs.Lines.{Reads}
 use Rattle.lines.specs.declared.line.Line.{Line}
-use Rattle.lines.specs.declared.priced.PricedLine.{PricedLine}
 use Rattle.fit.specs.First.{OneSpeed}
 use Rattle.fit.specs.Totals.{total_of}
 use Rattle.law.specs.declared.kinds.Word.TheVariants.{Proved}
@@ -23,22 +22,25 @@ use Rattle.law.specs.declared.kinds.Reply.{Reply}
 use Rattle.law.specs.declared.kinds.Reply.TheVariants.{Done, Told, Mounted, Slipped, Issued, Refused}
 use Rattle.law.specs.declared.kinds.Moment.{Moment}
 use Rattle.law.specs.Lives.{Best as IsBest, Transcript}
+use Rattle.appraisal.specs.Answers.{cheaper_text}
 use Rattle.appraisal.specs.Planning.{plan_of}
+use Rattle.appraisal.specs.declared.answer.CheaperLine.{CheaperLine}
 use Rattle.appraisal.specs.declared.finding.Found.{Found}
 
-abbrev pub best_text : Option PricedLine → List ℕ
-best_text (Some by) = codes "best\t" ++ priced_text by
+abbrev pub best_text : Option CheaperLine → List ℕ
+best_text (Some by) = codes "best\t" ++ cheaper_text by
 best_text None = codes "no line\tfewer than two speeds"
 
-abbrev pub Costs : List Shot → PricedLine → Type 0
-Costs xs by = by.total ≡ total_of even by.line xs
+pub record Costs (xs : List Shot) (l : Line) (by : CheaperLine) : Type 0 where
+  pub numbers : Reads l by.a by.b by.c
+  pub total : by.total ≡ total_of even l xs
 
-abbrev pub Tells : List Shot → Option Line → Option PricedLine → Type 0
-Tells xs o (Some by) = (o ≡ Some by.line) × Costs xs by
+abbrev pub Tells : List Shot → Option Line → Option CheaperLine → Type 0
+Tells xs o (Some by) = (l : Line) × (o ≡ Some l) × Costs xs l by
 Tells xs o None = o ≡ None
 
-abbrev pub BestOf : List Shot → Option PricedLine → Type 0
-BestOf xs (Some by) = IsBest even xs by.line × Costs xs by
+abbrev pub BestOf : List Shot → Option CheaperLine → Type 0
+BestOf xs (Some by) = (l : Line) × IsBest even xs l × Costs xs l by
 BestOf xs None = OneSpeed xs
 
 -- ys are the shots that the fresh rack holds at last

@@ -1,6 +1,6 @@
 //! What the program answers, and how it is written.
 ghost use Rattle.std.specs.Prelude.{Some};
-ghost use Rattle.appraisal.specs.Answers.{text_of};
+ghost use Rattle.appraisal.specs.Answers.{text_of, cheaper_text, Numbers};
 
 use lines::{PricedLine, Side};
 use shots::Refusal;
@@ -33,10 +33,43 @@ pub enum Answer {
     /// with its total.
     NotCheapest {
         at: Row,
-        by: PricedLine,
+        by: CheaperLine,
     },
     /// Fewer than two shots of different speeds are on the line, so the test does not apply.
     Untested,
+}
+
+/// A cheaper line and its total, as they are written in an answer.
+// four numbers and no `PricedLine`: an answer may be made and written of any four, as of any place and rates
+#[derive(Clone, Copy, PartialEq, Eq, Debug)]
+pub struct CheaperLine {
+    pub a: i32,
+    pub b: i32,
+    pub c: i32,
+    pub total: i64,
+}
+
+impl From<PricedLine> for CheaperLine {
+    ghost from_gives = { Numbers };
+
+    fn from(priced: PricedLine) -> CheaperLine {
+        let PricedLine { line, total } = priced;
+        CheaperLine {
+            a: line.a,
+            b: line.b,
+            c: line.c,
+            total,
+        }
+    }
+}
+
+impl fmt::Display for CheaperLine {
+    ghost output = { λ s. Some (cheaper_text s) };
+
+    fn fmt<W: fmt::Write>(&self, f: &mut fmt::Formatter<W>) -> fmt::Result {
+        let CheaperLine { a, b, c, total } = *self;
+        write!(f, "{a}\t{b}\t{c}\t{total}")
+    }
 }
 
 impl fmt::Display for Answer {

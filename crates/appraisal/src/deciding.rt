@@ -4,7 +4,7 @@ ghost use Rattle.shots.specs.Prices.{even};
 ghost use Rattle.fit.specs.Testing.{First};
 ghost use Rattle.appraisal.specs.Deciding.{Verdict, Shown};
 
-use crate::answer::Answer;
+use crate::answer::{Answer, CheaperLine};
 use fit::{Fit, has_two_speeds};
 use lines::{Line, PricedLine};
 use racks::Rack;
@@ -32,7 +32,7 @@ pub fn verdict<R: Rack>(rack: &R, line: Line) -> Answer
 }
 
 // The first place that shows that a line is cheaper, and the line turned about it.
-fn cheaper<R: Rack>(fit: &Fit<R, EvenPrices>, line: Line, place: usize) -> (Row, PricedLine)
+fn cheaper<R: Rack>(fit: &Fit<R, EvenPrices>, line: Line, place: usize) -> (Row, CheaperLine)
     requires { First even line (R.Rack.held fit.now.rack.now) place }
     ensures { (result.0.place ≡ place) × Shown (R.Rack.held fit.now.rack.now) line place result.0 result.1 }
 {
@@ -45,5 +45,5 @@ fn cheaper<R: Rack>(fit: &Fit<R, EvenPrices>, line: Line, place: usize) -> (Row,
         line: turned,
         total: fit.total(turned),
     };
-    (Row { place, rise, fall }, by)
+    (Row { place, rise, fall }, CheaperLine::from(by))
 }

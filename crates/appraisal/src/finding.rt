@@ -3,6 +3,7 @@ ghost use Rattle.std.specs.Prelude.{◌≡◌, ℕ, length, Decides, Some, Optio
 ghost use Rattle.appraisal.specs.Finding.{best_text, Tells, Finds, Settles};
 ghost use Rattle.appraisal.specs.Planning.{Planned};
 
+use crate::answer::CheaperLine;
 use crate::planning::plan;
 use fit::Fit;
 use law::{Call, Moment, Reply, Word};
@@ -15,7 +16,7 @@ use std::fmt;
 /// The cheapest line there is, with its total; none where fewer than two speeds are held, so that
 /// there is no line to find.
 #[derive(Clone, Copy, PartialEq, Eq, Debug)]
-pub struct BestLine(pub Option<PricedLine>);
+pub struct BestLine(pub Option<CheaperLine>);
 
 impl fmt::Display for BestLine {
     ghost output = { λ best. Some (best_text best.0) };
@@ -85,7 +86,7 @@ pub fn settles(reply: Reply) -> bool
 }
 
 // A line in force with its total, or that none is.
-fn in_force<R: Rack>(rack: &R, pass: Option<Line>) -> Option<PricedLine>
+fn in_force<R: Rack>(rack: &R, pass: Option<Line>) -> Option<CheaperLine>
     ensures { Tells (R.Rack.held rack.now) pass result }
 {
     pass.map(|line| {
@@ -93,9 +94,9 @@ fn in_force<R: Rack>(rack: &R, pass: Option<Line>) -> Option<PricedLine>
             rack,
             rule: &EvenPrices,
         };
-        PricedLine {
+        CheaperLine::from(PricedLine {
             line,
             total: fit.total(line),
-        }
+        })
     })
 }

@@ -36,10 +36,10 @@ fn add_shot<R: Rack>(rack: &mut R, text: &[u8]) -> Result<(usize, Shot), Refusal
     ensures declined { IfErr result (λ refusal. (R.Rack.held rack.new ≡ R.Rack.held rack.old) × Declined (R.Rack.capacity rack.old) (R.Rack.held rack.old) text.now refusal) }
 {
     let entry = read_entry(text).ok_or(Refusal::Unreadable)?;
-    // judged here too, since the answer wants the shot that the add keeps
-    let shot = Shot::try_from(entry)?;
     let place = rack.count();
     rack.add(entry)?;
+    // a rack holds at most 512 shots, so the place fits
+    let shot = rack.read(place as i32).unwrap();
     Ok((place, shot))
 }
 

@@ -11,7 +11,7 @@ mod planning;
 mod reading;
 mod text;
 
-pub use answer::Answer;
+pub use answer::{Answer, CheaperLine};
 pub use deciding::verdict;
 pub use finding::{BestLine, Finding, Found, find_best, settles};
 pub use judging::{close, judge};

@@ -1,7 +1,7 @@
 //! Text lines at their edges, a rack that is full, and lives of few shots.
 use crate::*;
 use law::{Call, Moment, Reply};
-use lines::{Line, PricedLine, Side};
+use lines::{Line, Side};
 use racks::{Rack, RecordRack};
 use shots::{Refusal, Shot};
 use slips::Row;
@@ -43,8 +43,10 @@ fn verdicts_name_a_cheaper_line(rt: HostRuntime) -> Result<(), Fail> {
                 rise: 5000,
                 fall: -1000,
             },
-            by: PricedLine {
-                line: best,
+            by: CheaperLine {
+                a: 75,
+                b: -1,
+                c: 2000,
                 total: 2000,
             },
         }
@@ -55,7 +57,6 @@ fn verdicts_name_a_cheaper_line(rt: HostRuntime) -> Result<(), Fail> {
 
 #[test]
 fn a_life_finds_the_best_line(rt: HostRuntime) -> Result<(), Fail> {
-    let best = line(75, -1, 2000)?;
     let mut records = [Shot::try_from(Entry::new(1, 0, 1, 0))?; 5];
     let mut rack = RecordRack::open(&mut records);
     rack.add(Entry::new(500, 20, 1, 0))?;
@@ -82,8 +83,10 @@ fn a_life_finds_the_best_line(rt: HostRuntime) -> Result<(), Fail> {
     assert_eq!(rt; found.count, 11);
     assert_eq!(rt;
         found.best,
-        BestLine(Some(PricedLine {
-            line: best,
+        BestLine(Some(CheaperLine {
+            a: 75,
+            b: -1,
+            c: 2000,
             total: 2000,
         }))
     );

@@ -20,4 +20,4 @@ returns g c =
     let fr : SFits w64 r = search rules in
     let fs : SFits w64 s = search rules in
     let ft : SFits w64 t = search rules in
-    (refl, shown c.args.line (g.R.Rack.held c.args.fit.now.rack.now) c.args.place (to_z w32 c.args.place) e c.requires r s _ _ c.unwrap-turned.result _ (rw c.unwrap-rise.ensures at c.rise_rate.ensures) (rw c.unwrap-fall.ensures at c.fall_rate.ensures) (rw c.unwrap-turned.ensures at c.turned_line.ensures.descends) (to_z-of_z w64 r fr) (to_z-of_z w64 s fs) (to_z-of_z w64 t ft ∙ c.total.ensures.value))
+    (refl, shown c.args.line (g.R.Rack.held c.args.fit.now.rack.now) c.args.place (to_z w32 c.args.place) e c.requires r s _ _ c.unwrap-turned.result c.from.result (rw c.unwrap-rise.ensures at c.rise_rate.ensures) (rw c.unwrap-fall.ensures at c.fall_rate.ensures) (rw c.unwrap-turned.ensures at c.turned_line.ensures.descends) (to_z-of_z w64 r fr) (to_z-of_z w64 s fs) c.from.ensures.0 (c.from.ensures.1 ∙ to_z-of_z w64 t ft ∙ c.total.ensures.value))
