@@ -7,8 +7,14 @@ use shots::Refusal;
 pub(crate) fn index_of(place: i32, count: usize) -> Result<usize, Refusal>
     ensures { Index place count result }
 {
-    usize::try_from(place)
-        .ok()
-        .filter(|index| *index < count)
-        .ok_or(Refusal::Place)
+    // by hand: through `usize::try_from` and `filter` a loop over a rack waited for the place at each shot
+    if place < 0 {
+        return Err(Refusal::Place);
+    }
+    let index = place as usize;
+    if index < count {
+        Ok(index)
+    } else {
+        Err(Refusal::Place)
+    }
 }
